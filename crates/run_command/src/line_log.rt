@@ -1,6 +1,7 @@
 //! A decider's log whose lines are written as they are told.
 
 ghost use Rattle.std.specs.Prelude.{◌≡◌, ◌++◌, [], false, true, IfOk, OnOk};
+ghost use Rattle.std.specs.Arc.{arc_value};
 ghost use Rattle.command_output.specs.ReportLine.{suppression_line};
 ghost use Rattle.run_command.specs.Report.{log_text};
 ghost use Rattle.written.specs.Written.{Leaves};
@@ -13,12 +14,13 @@ use engine::DeciderLog;
 use itoa::Buffer;
 use std::alloc::{AllocError, Global};
 use std::marker::Model;
+use std::sync::Arc;
 
 /// The log of a decider whose lines go to a writer as soon as each event is decided, each by itself. One that can't be written is lost
 /// and counted, so that the decider keeps nothing. Contracts see the configuration, what the writer holds, and how many were lost.
 #[derive(Drop)]
-pub struct LineLog<'c, W: Sink + Drop> {
-    config: &'c Config,
+pub struct LineLog<W: Sink + Drop> {
+    config: Arc<Config, Global>,
     writer: W,
     lines: Lines,
     /// How many lines were lost, up to the greatest `u64`.
@@ -27,14 +29,15 @@ pub struct LineLog<'c, W: Sink + Drop> {
     repeats: Option<Repeats>,
 }
 
-impl<'c, W: Sink + Drop> Model for LineLog<'c, W> {
+impl<W: Sink + Drop> Model for LineLog<W> {
+    ghost use Rattle.std.specs.Arc.{arc_value};
     ghost use Rattle.std.specs.Prelude.{◌≡◌, [], false, is_some};
     ghost use Rattle.run_command.specs.Logged.{Logged};
 
     ghost Value = { Logged };
 
     ghost view = { λ s. record {
-      config = s.config.now;
+      config = arc_value s.config;
       contents = W.contents s.writer;
       lost = s.lost;
       folds = is_some s.repeats;
@@ -44,11 +47,15 @@ impl<'c, W: Sink + Drop> Model for LineLog<'c, W> {
     ghost invariant = { λ s. is_some s.repeats ≡ false → s.lost ≡ 0 → s.lines ≡ [] };
 }
 
-impl<'c, W: Sink + Drop> LineLog<'c, W> {
+impl<W: Sink + Drop> LineLog<W> {
     /// A log that has lost nothing. It takes all its memory now; a refused growth is the only error.
-    pub fn new(alloc: Global, config: &'c Config, writer: W) -> Result<LineLog<'c, W>, AllocError>
+    pub fn new(
+        alloc: Global,
+        config: Arc<Config, Global>,
+        writer: W,
+    ) -> Result<LineLog<W>, AllocError>
         ensures { IfOk result (λ log. log
-            ≡ record { config = config.now; contents = W.contents writer; lost = 0; folds = false }) }
+            ≡ record { config = arc_value config; contents = W.contents writer; lost = 0; folds = false }) }
     {
         let lines = Lines::new(alloc)?;
         Ok(LineLog {
@@ -65,12 +72,12 @@ impl<'c, W: Sink + Drop> LineLog<'c, W> {
     /// It takes all its memory now; a refused growth is the only error.
     pub fn folding(
         alloc: Global,
-        config: &'c Config,
+        config: Arc<Config, Global>,
         deciders: u8,
         writer: W,
-    ) -> Result<LineLog<'c, W>, AllocError>
+    ) -> Result<LineLog<W>, AllocError>
         ensures { IfOk result (λ log. log
-            ≡ record { config = config.now; contents = W.contents writer; lost = 0; folds = true }) }
+            ≡ record { config = arc_value config; contents = W.contents writer; lost = 0; folds = true }) }
     {
         let lines = Lines::new(alloc)?;
         let repeats = Repeats::new(alloc, config.objects.as_slice().len(), deciders)?;
@@ -91,7 +98,7 @@ impl<'c, W: Sink + Drop> LineLog<'c, W> {
         let Some(repeats) = &mut self.repeats else {
             return;
         };
-        let more = write_rest(repeats, &mut self.lines, &mut self.writer, self.config);
+        let more = write_rest(repeats, &mut self.lines, &mut self.writer, &self.config);
         self.lost = self.lost.saturating_add(more);
     }
 
@@ -251,7 +258,7 @@ fn write_rest<W: Sink>(
     lost
 }
 
-impl<W: Sink + Drop + Send> DeciderLog for LineLog<'_, W> {
+impl<W: Sink + Drop + Send> DeciderLog for LineLog<W> {
     ghost use Rattle.std.specs.Prelude.{false};
     ghost use Rattle.run_command.specs.Logged.{HasLogged};
     ghost use Rattle.run_command.specs.LoggedLaws.{logs_more, logs_none};
@@ -267,12 +274,12 @@ impl<W: Sink + Drop + Send> DeciderLog for LineLog<'_, W> {
 
     fn tell(&mut self, told: &[Suppression]) -> bool {
         let lost = match &mut self.repeats {
-            None => write_each(&mut self.lines, &mut self.writer, self.config, told),
+            None => write_each(&mut self.lines, &mut self.writer, &self.config, told),
             Some(repeats) => write_folded(
                 repeats,
                 &mut self.lines,
                 &mut self.writer,
-                self.config,
+                &self.config,
                 told,
             ),
         };

@@ -55,23 +55,38 @@ pub record IsDone {C V : Type 0} (account : C → Account) (offered : C → List
   pub right : AreOpened texts config lanes (map (λ post. opened post.channel) posts)
   pub report : WritesRun account offered items can_fail is_open config zone tries posts given_back known ending before after
 
--- The ends of the lanes of a run of the feed were written, with channels on these lanes, and nothing else. Of each object the deciders told
--- their logs what comes before the run's own log.
-abbrev pub RunsLogged : (can_fail is_open : Bool) → Config → Zone → (lanes : List LaneId) → (known : Option (List ℕ)) → Ending
-    → (before after : Option (List ℕ)) → Type 0
-RunsLogged can_fail is_open c zone lanes known ending before after =
+-- The ends of the lanes of a run of the feed were written, with these channels, and nothing else; and lane by lane, what the lanes took is what
+-- the channels that came back have taken. Of each object the deciders told their logs what comes before the run's own log.
+abbrev pub WritesLogged : {C V : Type 0} → (account : C → Account) → (offered : C → List Offer → C → Type 0) → (items : V → List C)
+    → (can_fail is_open : Bool) → Config → Zone → (tries : ℕ) → (posts : List (Post C)) → (given_back : List V) → (known : Option (List ℕ))
+    → Ending → (before after : Option (List ℕ)) → Type 0
+WritesLogged account offered items can_fail is_open c zone tries posts given_back known ending before after =
     (end : RunEnd) × (told : (object : ℕ) → List Suppression)
-    × IsRunAfter c zone (channels_for lanes) end.events.items end.memory end.lanes.items told end.log.items
+    × IsRunAfter c zone (channels_for (map (λ post. post.lane) posts)) end.events.items end.memory end.lanes.items told end.log.items
     × IsReadOf (ahead_in end.refused.items) can_fail c known end.memory end.events.items end.refused.items end.cut
     × (is_open ≡ true → NoneIsAhead end.refused.items)
+    × AreTold account offered items tries c (λ l. channels_on (λ post. post.lane.0) (λ post. post.channel) l posts) given_back end.lanes.items
     × (end.memory ≡ false) × (ending ≡ ending_of end)
     × Writes before after (ends_text c end.lanes.items)
 
--- All checks of the words of these texts went well, and a run of the feed was done, by an accepted configuration, with channels on the lanes
--- that the words name.
-pub record IsLogged (texts : List (List ℕ)) (can_fail is_open : Bool) (zone : Zone) (known : Option (List ℕ)) (ending : Ending)
-    (before after : Option (List ℕ)) : Type 0 where
+-- The same of these channels, in the order of their lanes.
+abbrev pub RunsLogged : {C D V : Type 0} → (account : C → Account) → (offered : C → List Offer → C → Type 0) → (items : V → List C)
+    → (channel_of : C → D) → (can_fail is_open : Bool) → Config → Zone → (tries : ℕ) → (lanes : List LaneId) → (channels : List D)
+    → (given_back : List V) → (known : Option (List ℕ)) → Ending → (before after : Option (List ℕ)) → Type 0
+RunsLogged {C} account offered items channel_of can_fail is_open c zone tries lanes channels given_back known ending before after =
+    (posts : List (Post C))
+    × (map (λ post. post.lane) posts ≡ lanes)
+    × (map (λ post. channel_of post.channel) posts ≡ channels)
+    × WritesLogged account offered items can_fail is_open c zone tries posts given_back known ending before after
+
+-- All checks of the words of these texts went well, their channels were opened, and a run of the feed was done: by an accepted configuration,
+-- each channel on the lane that its word names.
+pub record IsLogged {C V : Type 0} (account : C → Account) (offered : C → List Offer → C → Type 0) (items : V → List C)
+    (opened : C → Opened) (texts : List (List ℕ)) (can_fail is_open : Bool) (zone : Zone) (tries : ℕ) (given_back : List V)
+    (known : Option (List ℕ)) (ending : Ending) (before after : Option (List ℕ)) : Type 0 where
   pub config : Config
   pub lanes : List LaneId
-  pub right : AreRight texts config lanes
-  pub report : RunsLogged can_fail is_open config zone lanes known ending before after
+  pub posts : List (Post C)
+  pub posted : map (λ post. post.lane) posts ≡ lanes
+  pub right : AreOpened texts config lanes (map (λ post. opened post.channel) posts)
+  pub report : WritesLogged account offered items can_fail is_open config zone tries posts given_back known ending before after

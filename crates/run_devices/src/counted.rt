@@ -8,16 +8,17 @@ use crate::settings::pause_after;
 use crate::teller::{LaneTeller, Teller};
 use channel::letter::Letter;
 use channel::{Channel, Fault, Kind, Receipt};
+use command_output::OutputLine;
 use due_model::config::LaneId;
 use due_model::notice::Notice;
-use engine::Gate;
+use engine::{Gate, Why};
 use progress::Counts;
 use std::alloc::{AllocError, Global};
 use std::sync::Arc;
 use std::time::Duration;
 
-/// A gate that admits all, counts the events, those that the first decider comes to, and says how long a lane waits before it tries
-/// a letter again.
+/// A gate that admits all, counts the events, those that the first decider comes to, says how long a lane waits before it tries a letter
+/// again, and writes what is given up and what is over to the run's log, if it has one.
 #[derive(Drop)]
 pub struct CountingGate {
     counts: Arc<Counts, Global>,
@@ -54,6 +55,25 @@ impl Gate for CountingGate {
 
     fn refused(&self, line: u64, fault: &str) {
         self.teller.say_refused(line, fault);
+    }
+
+    fn given_up(&self, notice: &Notice) {
+        self.teller.log_line(&OutputLine::Undelivered {
+            lane: notice.lane,
+            notice: *notice,
+        });
+    }
+
+    fn channel_over(&self, lane: LaneId, number: u64, taken: u64) {
+        self.teller.log_line(&OutputLine::Box {
+            lane,
+            number,
+            count: taken,
+        });
+    }
+
+    fn lane_over(&self, lane: LaneId, why: Why) {
+        self.teller.log_line(&OutputLine::Closed { lane, why });
     }
 
     fn wanting(&self) {
@@ -136,7 +156,7 @@ impl<C: Channel> Channel for CountedChannel<C> {
         let outcome = self.channel.deliver(letter);
         if outcome.is_ok() {
             self.counts.count_message();
-            self.teller.taken();
+            self.teller.taken(letter);
         } else {
             self.teller.failed(letter);
         }

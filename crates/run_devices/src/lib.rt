@@ -5,8 +5,7 @@ pub mod channels;
 pub mod counted;
 pub mod fault;
 pub mod horizon;
-mod logged_channel;
-mod logged_gate;
+mod log_writer;
 pub mod logged_run;
 mod rotated_file;
 pub mod run;
@@ -17,7 +16,7 @@ pub mod watched;
 mod watcher;
 
 pub use fault::RunFault;
-pub use logged_run::{LoggedWords, do_logged_run};
+pub use logged_run::{LogPlace, LoggedWords, do_logged_run};
 pub use run::do_run;
 pub use settings::RunSettings;
 pub use watched::Watched;

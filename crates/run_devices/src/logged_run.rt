@@ -1,27 +1,30 @@
 //! A run that writes its report to a log as it goes.
 
 ghost use Rattle.std.specs.Prelude.{◌≡◌, ◌≤◌, ℕ, [], is_none, length, map, unwrap_or, IfErr, IfOk, Ok};
+ghost use Rattle.std.specs.Arc.{arc_value};
 ghost use Rattle.std.specs.Option.{option_map};
 ghost use Rattle.channel_words.specs.Lanes.{channels_for};
 ghost use Rattle.due_model.specs.Accepted.{IsAccepted};
-ghost use Rattle.run_devices.specs.Done.{IsLogged, RunsLogged};
+ghost use Rattle.run_devices.specs.Channels.{numbered_from, opened};
+ghost use Rattle.run_devices.specs.Done.{IsLogged, RunsLogged, WritesLogged};
 ghost use Rattle.run_devices.specs.Fault.{IsCommandFault, RunFails};
 
 use crate::channels::OpenedChannel;
-use crate::counted::{CountedChannel, CountingGate};
+use crate::counted::CountedChannel;
 use crate::fault::RunFault;
 use crate::horizon::ClockHorizon;
-use crate::logged_channel::LoggedChannel;
-use crate::logged_gate::LoggedGate;
-use crate::run::{open_words, posts_of, watch};
-use crate::run_log::{LogWriter, RunLog, SharedLog};
+use crate::log_writer::LogWriter;
+use crate::run::{RunDone, SentChannel, open_words, posts_of};
+use crate::run_log::RunLog;
 use crate::settings::RunSettings;
-use crate::teller::{Teller, teller_of};
+use crate::teller::Teller;
+use crate::watched::Watched;
+use crate::watcher::WayMaker;
+use channel::Channel;
 use command_output::{AnyWriter, CommandFault, Ending, Sink};
 use due_model::config::{Config, LaneId};
 use due_model::zone::Zone;
 use engine::{Closers, LimitedFeed, Outlets, Post, Setup};
-use notice_text::texts::lane_name;
 use run_command::{LineLog, LoggedEnd, run_logged};
 use std::alloc::{AllocError, Global};
 use std::io::Eprint;
@@ -30,11 +33,8 @@ use std::thread::Threads;
 use std::time::Clock;
 use text_lines::Input;
 
-/// A channel of a run with a log.
-type SentChannel<'t, T> = LoggedChannel<'t, CountedChannel<OpenedChannel>, T>;
-
 /// What the log of a decider is.
-type DeciderLines<'c, 't, T> = LineLog<'c, AnyWriter<LogWriter<'t, T>>>;
+type DeciderLines = LineLog<AnyWriter<LogWriter>>;
 
 /// What a run with a log is asked.
 #[derive(Clone, Copy, Debug)]
@@ -43,8 +43,15 @@ pub struct LoggedWords<'m, 'a> {
     pub objects: &'m str,
     /// The channel words.
     pub channels: Option<&'m [&'a str]>,
+    /// Where the lines of the report go.
+    pub log: LogPlace<'a>,
+}
+
+/// Where the report of a run goes as it goes.
+#[derive(Clone, Copy, Debug)]
+pub struct LogPlace<'a> {
     /// The file of the log.
-    pub log: &'a str,
+    pub file: &'a str,
     /// Whether lines of the log that repeat the one before are folded.
     pub fold: bool,
 }
@@ -59,189 +66,222 @@ pub fn do_logged_run<'m, 'a, T: Threads + Wait + Clock + Sync, R: Input + Drop, 
     settings: RunSettings,
     feed: R,
     writer: &mut W,
-) -> Result<Ending, RunFault<'a>>
+) -> Result<RunDone, RunFault<'a>>
     // It is done only where all checks of the words went well, and then the ends of the lanes of a run were written, with channels for the
-    // lanes that they name.
+    // lanes that they name; and lane by lane, what the lanes took is what the channels that come back have taken.
     ensures ok { let texts = map (λ text. text.now)
         (unwrap_or (option_map (λ given. given.now) words.entry.channels) [])
-        in IfOk result (λ ending. IsLogged texts R.can_fail (is_none settings.ahead) zone.now (R.remaining feed) ending
+        in IfOk result (λ done. IsLogged ⟦<CountedChannel<OpenedChannel> as Channel>⟧.account
+        ⟦<CountedChannel<OpenedChannel> as Channel>⟧.offered (λ cs. cs.items) (λ c. opened c.channel)
+        texts R.can_fail (is_none settings.ahead) zone.now settings.settings.tries done.channels.items (R.remaining feed) done.ending
         (W.contents writer.old) (W.contents writer.new)) }
     // What it fails with, and that the earlier checks went well.
     ensures fault { let texts = map (λ text. text.now)
         (unwrap_or (option_map (λ given. given.now) words.entry.channels) [])
         in IfErr result (RunFails texts) }
 {
-    let (config, lanes, opened) = open_words(rt, words.objects, words.channels, settings.limit())?;
-    let site = LoggedSite {
-        config: &config,
+    let (config, lanes, channels) = open_words(
+        rt,
+        words.objects,
+        words.channels,
+        settings.limit(),
+    )?;
+    let done = log_through(
+        rt,
+        threads,
+        config,
         zone,
-        settings,
-        log: words.log,
-        fold: words.fold,
-    };
-    let ending = log_through(rt, threads, site, &lanes, opened, feed, writer)?;
-    Ok(ending)
+        LogSettings {
+            run: settings,
+            log: words.log,
+        },
+        OpenedLanes { lanes, channels },
+        feed,
+        writer,
+    )?;
+    Ok(done)
 }
 
-/// What a run with a log is over.
-#[derive(Clone, Copy)]
-struct LoggedSite<'s> {
-    config: &'s Config,
-    zone: &'s Zone,
-    settings: RunSettings,
-    /// The file of the log.
-    log: &'s str,
-    /// Whether its lines are folded.
-    fold: bool,
+/// How a run with a log is set up.
+#[derive(Clone, Copy, Debug)]
+struct LogSettings<'a> {
+    run: RunSettings,
+    log: LogPlace<'a>,
+}
+
+/// The channels of a run, each for the lane at its place.
+#[derive(Drop)]
+struct OpenedLanes {
+    lanes: Vec<LaneId>,
+    channels: Vec<OpenedChannel>,
 }
 
 /// Reads a feed, with channels for these lanes, one each in order, as `do_run` does, and writes the log and the ends of the lanes.
 fn log_through<'a, T: Threads + Wait + Clock + Sync, R: Input + Drop, W: Sink>(
     rt: &HostRuntime,
     threads: &T,
-    site: LoggedSite<'_>,
-    lanes: &[LaneId],
-    channels: Vec<OpenedChannel>,
+    config: Config,
+    zone: &Zone,
+    settings: LogSettings<'_>,
+    opened: OpenedLanes,
     feed: R,
     writer: &mut W,
-) -> Result<Ending, RunFault<'a>>
-    requires accepted { IsAccepted site.config.now }
-    requires each { length channels.items ≡ length lanes.now }
-    requires few { (l : ℕ) → channels_for lanes.now l ≤ 8 }
-    ensures report { IfOk result (λ ending. RunsLogged R.can_fail (is_none site.settings.ahead)
-        site.entry.config.now site.entry.zone.now lanes.now (R.remaining feed) ending
-        (W.contents writer.old) (W.contents writer.new)) }
+) -> Result<RunDone, RunFault<'a>>
+    requires accepted { IsAccepted config }
+    requires each { length opened.channels.items ≡ length opened.lanes.items }
+    requires few { (l : ℕ) → channels_for opened.lanes.items l ≤ 8 }
+    ensures report { IfOk result (λ done. RunsLogged ⟦<CountedChannel<OpenedChannel> as Channel>⟧.account
+        ⟦<CountedChannel<OpenedChannel> as Channel>⟧.offered (λ cs. cs.items) (λ c. c.channel)
+        R.can_fail (is_none settings.entry.run.ahead) config zone.now settings.entry.run.settings.tries opened.lanes.items
+        (numbered_from 0 opened.channels.items) done.channels.items
+        (R.remaining feed) done.ending (W.contents writer.old) (W.contents writer.new)) }
     ensures fault { IfErr result IsCommandFault }
 {
     let alloc = rt.alloc();
-    let (counts, mut watcher) = watch(rt, threads)?;
-    let closers = Closers::new(alloc, site.config.lanes.len() as u8)?;
-    let teller = Arc::new(
+    let config = Arc::new(alloc, config)?;
+    let log = opened_log(rt, Arc::try_clone(&config)?, settings.log.file)?;
+    let watched = Watched::new(rt, threads, settings.run.quiet, Some(log))?;
+    let OpenedLanes { lanes, channels } = opened;
+    let posts = posts_of(
         alloc,
-        Teller::new(rt, Arc::try_clone(&counts)?, site.settings.quiet),
+        &config,
+        &lanes,
+        channels,
+        &watched.counts,
+        &watched.teller,
     )?;
-    let log = opened_log(rt, threads, site.log, &teller)?;
-    let counting = CountingGate::new(
-        Arc::try_clone(&counts)?,
-        Arc::try_clone(&teller)?,
-        site.settings.pause,
-    );
-    let gate = LoggedGate::new(counting, site.config, Arc::try_clone(&log)?);
-    let deciders = site.settings.settings.deciders;
-    let logs = decider_lines(alloc, site.config, deciders, site.fold, &log)?;
-    let posts = posts_of(alloc, site.config, lanes, channels, &counts, &teller)?;
-    let posts = logged_posts(alloc, site.config, posts, &log)?;
-    teller.say_unserved(site.config, lanes);
+    watched.teller.say_unserved(&config, &lanes);
+    let fold = settings.log.fold;
+    let (ending, channels) = log_posts(
+        watched,
+        &config,
+        zone,
+        settings.run,
+        fold,
+        posts,
+        feed,
+        writer,
+    )?;
+    Ok(RunDone { ending, channels })
+}
+
+/// Reads a feed, with these posts, as `run_posts` does, where the report goes to the log as it happens, and the ends of the lanes to the writer once
+/// the feed is over. The channels come back, lane by lane. Lines of the log that were lost are what the output failed at.
+pub fn log_posts<C: Channel, T: Threads + Wait + Clock + Sync, R: Input + Drop, W: Sink>(
+    watched: Watched<'_, T>,
+    config: &Arc<Config, Global>,
+    zone: &Zone,
+    settings: RunSettings,
+    fold: bool,
+    posts: Vec<Post<C>>,
+    feed: R,
+    writer: &mut W,
+) -> Result<(Ending, Vec<Vec<C>>), CommandFault>
+    requires accepted { IsAccepted (arc_value config.now) }
+    requires few { (l : ℕ) → channels_for (map (λ post. post.lane) posts.items) l ≤ 8 }
+    ensures report { IfOk result (λ done. WritesLogged C.account C.offered (λ cs. cs.items)
+        R.can_fail (is_none settings.ahead) (arc_value config.now) zone.now settings.settings.tries posts.items done.1.items
+        (R.remaining feed) done.0 (W.contents writer.old) (W.contents writer.new)) }
+{
+    let alloc = watched.rt.alloc();
+    let closers = Closers::new(alloc, config.lanes.len() as u8)?;
+    let gate = watched.gate(settings.pause)?;
+    let teller = Arc::try_clone(&watched.teller)?;
+    let deciders = settings.settings.deciders;
+    let logs = decider_lines(alloc, config, deciders, fold, &teller)?;
+    let rt = *watched.rt;
+    let watcher = watched.watcher;
+    let mut way = WayMaker::new(Arc::try_clone(&watched.counts)?);
     let LoggedEnd {
         outcome,
-        channels: _,
+        channels,
         logs,
     } = run_logged(
         Setup {
-            rt: threads,
+            rt: watched.threads,
             alloc,
-            config: site.config,
-            zone: site.zone,
+            config,
+            zone,
             closers: &closers,
             gate: &gate,
         },
-        site.settings.settings,
+        settings.settings,
         Outlets { posts, logs },
         LimitedFeed {
             reader: feed,
             horizon: ClockHorizon {
-                rt: *rt,
-                ahead: site.settings.ahead,
+                rt,
+                ahead: settings.ahead,
             },
         },
         writer,
-        &mut watcher,
+        &mut way,
     );
+    finish_logs(logs);
+    watcher.finish();
+    let ending = whole_log(&rt, teller.lost(), outcome)?;
+    Ok((ending, channels))
+}
+
+/// Writes what the logs hold back.
+fn finish_logs(logs: Vec<DeciderLines>) {
     for log in logs {
         let mut log = log;
         log.finish();
     }
-    watcher.finish();
-    whole_log(rt, &log, outcome)
 }
 
 /// The log in the file at a path.
-fn opened_log<'t, 'a, T: Wait>(
+fn opened_log(
     rt: &HostRuntime,
-    threads: &'t T,
+    config: Arc<Config, Global>,
     path: &str,
-    teller: &Arc<Teller, Global>,
-) -> Result<SharedLog<'t, T>, RunFault<'a>>
-    ensures { IfErr result IsCommandFault }
-{
-    match RunLog::open(rt, threads, path, Arc::try_clone(teller)?)? {
+) -> Result<RunLog, CommandFault> {
+    match RunLog::open(rt, config, path)? {
         Some(log) => Ok(log),
         None => {
             let _ = rt.eprintln(format_args!("notify-run: log: {path} can't be opened"));
-            Err(RunFault::Command(CommandFault::Output))
+            Err(CommandFault::Output)
         }
     }
 }
 
-/// A log for each decider, of which all write there. A refused growth is the only error.
-fn decider_lines<'c, 't, T: Wait>(
+/// A log for each decider, of which all write to the run's log. A refused growth is the only error.
+fn decider_lines(
     alloc: Global,
-    config: &'c Config,
+    config: &Arc<Config, Global>,
     deciders: u8,
     fold: bool,
-    log: &SharedLog<'t, T>,
-) -> Result<Vec<DeciderLines<'c, 't, T>>, AllocError>
+    teller: &Arc<Teller, Global>,
+) -> Result<Vec<DeciderLines>, AllocError>
     ensures { IfOk result (λ logs. length logs.items ≡ deciders) }
 {
     let mut logs = Vec::with_capacity(alloc, usize::from(deciders))?;
     for _decider in 0..deciders {
-        let writer = AnyWriter::new(LogWriter::new(Arc::try_clone(log)?));
+        let writer = AnyWriter::new(LogWriter::new(Arc::try_clone(teller)?));
         logs.push(if fold {
-            LineLog::folding(alloc, config, deciders, writer)?
+            LineLog::folding(alloc, Arc::try_clone(config)?, deciders, writer)?
         } else {
-            LineLog::new(alloc, config, writer)?
+            LineLog::new(alloc, Arc::try_clone(config)?, writer)?
         })?;
     }
     Ok(logs)
 }
 
-/// These posts, of which each channel writes to the log what it has taken. A refused growth is the only error.
-fn logged_posts<'t, T: Wait + Sync>(
-    alloc: Global,
-    config: &Config,
-    posts: Vec<Post<CountedChannel<OpenedChannel>>>,
-    log: &SharedLog<'t, T>,
-) -> Result<Vec<Post<SentChannel<'t, T>>>, AllocError>
-    ensures { IfOk result (λ logged.
-        map (λ post. post.lane) logged.items ≡ map (λ post. post.lane) posts.items) }
-{
-    let mut logged = Vec::with_capacity(alloc, posts.len())?;
-    for post in posts {
-        let Post { lane, channel } = post;
-        let mut name = Vec::new(alloc);
-        name.extend_from_slice(lane_name(config, lane))?;
-        let channel = LoggedChannel::new(channel, Arc::try_clone(log)?, name);
-        logged.push(Post { lane, channel })?;
-    }
-    Ok(logged)
-}
-
 /// How a run ended, where no line of its log was lost. How many were is said on standard error.
-fn whole_log<'a, T: Wait>(
+fn whole_log(
     rt: &HostRuntime,
-    log: &RunLog<'_, T>,
+    lost: u64,
     outcome: Result<Ending, CommandFault>,
-) -> Result<Ending, RunFault<'a>>
-    ensures ok { IfOk result (λ ending. outcome ≡ Ok ending) }
-    ensures fault { IfErr result IsCommandFault }
+) -> Result<Ending, CommandFault>
+    ensures { IfOk result (λ ending. outcome ≡ Ok ending) }
 {
-    let lost = log.lost();
     if lost > 0 {
         let _ = rt.eprintln(format_args!("notify-run: log: {lost} lines lost"));
     }
     let ending = outcome?;
     if lost > 0 {
-        return Err(RunFault::Command(CommandFault::Output));
+        return Err(CommandFault::Output);
     }
     Ok(ending)
 }

@@ -15,7 +15,6 @@ use crate::horizon::ClockHorizon;
 use crate::settings::RunSettings;
 use crate::teller::{Teller, teller_of};
 use crate::watched::Watched;
-use crate::watcher::RunWatcher;
 use channel::Channel;
 use channel_words::{ChannelWord, lanes_of, read_words};
 use command_input::read_object_file;
@@ -156,16 +155,6 @@ pub fn posts_of(
     Ok(posts)
 }
 
-/// What a run counts by, and who shows it. A refused growth is the only error.
-pub(crate) fn watch<'r, T: Threads>(
-    rt: &'r HostRuntime,
-    threads: &'r T,
-) -> Result<(Arc<Counts, Global>, RunWatcher<'r, T>), AllocError> {
-    let counts = Arc::new(rt.alloc(), Counts::new())?;
-    let watcher = RunWatcher::new(rt, threads, Arc::try_clone(&counts)?);
-    Ok((counts, watcher))
-}
-
 /// Reads a feed, with these posts, where of several for one lane the first serves and each other where the one before has failed. What is
 /// counted is shown until it is over. The channels come back, lane by lane.
 pub fn run_posts<C: Channel, T: Threads + Wait + Clock + Sync, R: Input + Drop, W: Sink>(
@@ -234,7 +223,7 @@ fn run_through<'a, T: Threads + Wait + Clock + Sync, R: Input + Drop, W: Sink>(
         (R.remaining feed) done.ending (W.contents writer.old) (W.contents writer.new)) }
     ensures fault { IfErr result IsCommandFault }
 {
-    let watched = Watched::new(rt, threads, settings.quiet)?;
+    let watched = Watched::new(rt, threads, settings.quiet, None)?;
     let posts = posts_of(
         rt.alloc(),
         config,

@@ -1,107 +1,94 @@
 //! The log of a run: lines of its report, which are written as they happen.
 
 use crate::rotated_file::RotatedFile;
-use crate::teller::Teller;
-use command_output::{AnyWriter, Lines, OutputLine};
-use due_model::config::Config;
+use channel::letter::Letter;
+use command_output::{CommandFault, Lines, OutputLine};
+use due_model::config::{Config, LaneId};
+use idle_pause::Pause;
+use notice_text::texts::lane_name;
 use std::alloc::{AllocError, Global};
-use std::io::{self, ErrorKind, Write};
+use std::io::Write;
 use std::sync::atomic::{AtomicBool, AtomicU64, Ordering};
-use std::sync::{Arc, Mutex, Wait};
+use std::sync::{Arc, Mutex};
 
-/// The log of a run, which takes lines from any thread, and writes each by itself. One that can't be written is lost and counted; that is
-/// said once on standard error.
+/// The log of a run, which takes lines from any thread, and writes each by itself. One that can't be written is lost and counted.
 #[derive(Drop)]
-pub struct RunLog<'t, T: Wait> {
+pub struct RunLog {
     rt: HostRuntime,
-    threads: &'t T,
-    teller: Arc<Teller, Global>,
-    place: Mutex<LogPlace>,
+    config: Arc<Config, Global>,
+    file: Mutex<RotatedFile>,
     /// How many lines were lost.
     lost: AtomicU64,
-    /// Whether it was said that lines are lost.
+    /// Whether a line was lost.
     was_failing: AtomicBool,
 }
 
-/// The log of a run, as its threads share it.
-pub(crate) type SharedLog<'t, T> = Arc<RunLog<'t, T>, Global>;
-
-/// Where the lines go, and how they are made.
-#[derive(Drop)]
-struct LogPlace {
-    file: AnyWriter<RotatedFile>,
-    lines: Lines,
-}
-
-impl LogPlace {
-    /// Writes a line. False: it is lost.
-    fn write(&mut self, config: &Config, line: &OutputLine<'_>) -> bool {
-        let made = self.lines.write(&mut self.file, config, line);
-        let written = self.lines.flush(&mut self.file);
-        made.is_ok() && written.is_ok()
-    }
-
-    /// Writes a line that is made. False: it is lost.
-    fn append(&mut self, text: &[u8]) -> bool {
-        self.file.write(text).is_ok()
-    }
-}
-
-impl<'t, T: Wait> RunLog<'t, T> {
+impl RunLog {
     /// A log in the file at a path, which is made if it isn't there, and else appended to. `Ok(None)`: it can't be opened. A refused
     /// growth is the only error.
     pub(crate) fn open(
         rt: &HostRuntime,
-        threads: &'t T,
+        config: Arc<Config, Global>,
         path: &str,
-        teller: Arc<Teller, Global>,
-    ) -> Result<Option<SharedLog<'t, T>>, AllocError> {
-        let alloc = rt.alloc();
-        let lines = Lines::new(alloc)?;
-        let Some(file) = RotatedFile::open(rt, String::from_str(alloc, path)?) else {
+    ) -> Result<Option<RunLog>, AllocError> {
+        let Some(file) = RotatedFile::open(rt, String::from_str(rt.alloc(), path)?) else {
             return Ok(None);
         };
-        let log = RunLog {
+        Ok(Some(RunLog {
             rt: *rt,
-            threads,
-            teller,
-            place: Mutex::new(LogPlace {
-                file: AnyWriter::new(file),
-                lines,
-            }),
+            config,
+            file: Mutex::new(file),
             lost: AtomicU64::new(0),
             was_failing: AtomicBool::new(false),
-        };
-        Ok(Some(Arc::new(alloc, log)?))
+        }))
     }
 
-    /// Writes a line.
-    pub(crate) fn write(&self, config: &Config, line: &OutputLine<'_>) {
-        if !self.place.lock(self.threads).write(config, line) {
-            self.lose();
+    /// Writes a line of the report. False: it is the first that is lost.
+    pub(crate) fn write(&self, line: &OutputLine<'_>) -> bool {
+        match made_line(self.rt.alloc(), &self.config, line) {
+            Ok(text) => self.append(text.as_slice()),
+            Err(_) => self.lose(),
         }
     }
 
-    /// Writes a line that is made. False: it is lost.
+    /// Writes the line of a letter that the channel of a lane has taken. False: it is the first that is lost.
+    pub(crate) fn write_taken(&self, lane: &str, letter: &Letter) -> bool {
+        match taken_line(self.rt.alloc(), lane, letter) {
+            Ok(text) => self.append(text.as_slice()),
+            Err(_) => self.lose(),
+        }
+    }
+
+    /// Writes the line of a line of the feed that is refused. False: it is the first that is lost.
+    pub(crate) fn write_refused(&self, line: u64, fault: &str) -> bool {
+        match format!(in self.rt.alloc(); "R;{line};{fault}\n") {
+            Ok(text) => self.append(text.as_bytes()),
+            Err(_) => self.lose(),
+        }
+    }
+
+    /// Writes lines that are made. False: they are the first that are lost.
     pub(crate) fn append(&self, text: &[u8]) -> bool {
-        let is_written = self.place.lock(self.threads).append(text);
-        if !is_written {
-            self.lose();
+        if self.put(text) { true } else { self.lose() }
+    }
+
+    /// Writes lines that are made, once no other thread writes. False: they aren't written.
+    pub(crate) fn put(&self, text: &[u8]) -> bool {
+        let mut pause = Pause::new();
+        for _ in 0..u64::MAX {
+            if let Some(file) = self.file.try_lock() {
+                let mut file = file;
+                return file.write(text).is_ok();
+            }
+            pause.rest(&self.rt);
         }
-        is_written
+        false
     }
 
-    /// The allocator of lines.
-    pub(crate) fn alloc(&self) -> Global {
-        self.rt.alloc()
-    }
-
-    /// A line more is lost.
-    pub(crate) fn lose(&self) {
+    /// A line more is lost. False: it is the first.
+    pub(crate) fn lose(&self) -> bool {
         self.lost.fetch_add(1, Ordering::SeqCst);
-        if !self.was_failing.swap(true, Ordering::SeqCst) {
-            self.teller.say("log: a line can't be written; what comes now goes out all the same");
-        }
+        self.was_failing.swap(true, Ordering::SeqCst)
     }
 
     /// How many lines were lost.
@@ -110,29 +97,50 @@ impl<'t, T: Wait> RunLog<'t, T> {
     }
 }
 
-/// A writer to a log. What it is given at once is whole lines.
-#[derive(Drop)]
-pub struct LogWriter<'t, T: Wait> {
-    log: SharedLog<'t, T>,
+/// The text of a line. Want of memory is the only error.
+fn made_line(
+    alloc: Global,
+    config: &Config,
+    line: &OutputLine<'_>,
+) -> Result<Vec<u8>, CommandFault> {
+    let mut lines = Lines::new(alloc)?;
+    let mut text = Vec::new(alloc);
+    lines.write(&mut text, config, line)?;
+    lines.flush(&mut text)?;
+    Ok(text)
 }
 
-impl<'t, T: Wait> LogWriter<'t, T> {
-    /// A writer to this log.
-    pub(crate) fn new(log: SharedLog<'t, T>) -> LogWriter<'t, T> {
-        LogWriter { log }
-    }
+/// The line of a letter that was taken. A refused growth is the only error.
+fn taken_line(alloc: Global, lane: &str, letter: &Letter) -> Result<Vec<u8>, AllocError> {
+    let text = letter.text.as_slice();
+    let event = letter.notice.event;
+    let number = format!(in alloc; ";{event};")?;
+    let mut line = Vec::new(alloc);
+    line.extend_from_slice(b"T;")?;
+    line.extend_from_slice(lane.as_bytes())?;
+    line.extend_from_slice(number.as_bytes())?;
+    line.extend_from_slice(value_after(text, b"\nObject: "))?;
+    line.extend_from_slice(b";")?;
+    line.extend_from_slice(value_after(text, b"To: "))?;
+    line.extend_from_slice(b"\n")?;
+    Ok(line)
 }
 
-impl<T: Wait> Write for LogWriter<'_, T> {
-    fn write(&mut self, bytes: &[u8]) -> io::Result<usize> {
-        if self.log.append(bytes) {
-            Ok(bytes.len())
-        } else {
-            Err(io::Error::from(ErrorKind::Other))
+/// What follows the first of these bytes in a text, up to the end of the line.
+fn value_after<'a>(text: &'a [u8], front: &[u8]) -> &'a [u8] {
+    for at in 0..text.len() {
+        if text[at..].starts_with(front) {
+            return line_of(&text[at..], front.len());
         }
     }
+    &[]
+}
 
-    fn flush(&mut self) -> io::Result<()> {
-        Ok(())
+/// What a line has from a place on.
+fn line_of(text: &[u8], place: usize) -> &[u8] {
+    let rest = text.get(place..).unwrap_or(&[]);
+    match rest.iter().position(|byte| *byte == b'\n') {
+        Some(end) => rest.get(..end).unwrap_or(rest),
+        None => rest,
     }
 }

@@ -1,7 +1,9 @@
 //! What a run says at once on standard error: a line of the feed that is refused, a channel that failed for good, a lane that
-//! closed since its last channel has, or that has none, and want of memory.
+//! closed since its last channel has, or that has none, and want of memory. And what it writes to its log, if it has one.
 
+use crate::run_log::RunLog;
 use channel::letter::Letter;
+use command_output::OutputLine;
 use due_model::config::{Config, LaneId};
 use notice_text::texts::lane_name;
 use progress::Counts;
@@ -16,7 +18,7 @@ const EMPTY: &str = "\r\x1b[K";
 /// What is said where memory ran out.
 const WANTING: &str = "notify-run: memory: some of what comes now stays undecided or undelivered\n";
 
-/// What says lines on standard error, from any thread, and each by one call. What can't be written is left out.
+/// What says lines on standard error, from any thread, and each by one call; what can't be written is left out. And what writes lines of the run's log.
 #[derive(Drop)]
 pub struct Teller {
     rt: HostRuntime,
@@ -27,11 +29,17 @@ pub struct Teller {
     begin: &'static str,
     /// Whether it was said that memory ran out.
     was_wanting: AtomicBool,
+    log: Option<RunLog>,
 }
 
 impl Teller {
-    /// A teller beside what shows these counts, or one that says nothing.
-    pub fn new(rt: &HostRuntime, counts: Arc<Counts, Global>, is_quiet: bool) -> Teller {
+    /// A teller beside what shows these counts, or one that says nothing; with the log of the run, if it has one.
+    pub fn new(
+        rt: &HostRuntime,
+        counts: Arc<Counts, Global>,
+        is_quiet: bool,
+        log: Option<RunLog>,
+    ) -> Teller {
         let begin = if rt.stderr().is_terminal() { EMPTY } else { "" };
         Teller {
             rt: *rt,
@@ -39,6 +47,7 @@ impl Teller {
             is_quiet,
             begin,
             was_wanting: AtomicBool::new(false),
+            log,
         }
     }
 
@@ -55,8 +64,45 @@ impl Teller {
         self.counts.say();
     }
 
-    /// Says that a line of the feed is refused.
+    /// Says that lines of the log can't be written, where it is so for the first time.
+    fn say_log(&self, is_well: bool) {
+        if !is_well {
+            self.say("log: a line can't be written; what comes now goes out all the same");
+        }
+    }
+
+    /// Writes a line of the report to the log, if there is one.
+    pub(crate) fn log_line(&self, line: &OutputLine<'_>) {
+        if let Some(log) = &self.log {
+            self.say_log(log.write(line));
+        }
+    }
+
+    /// Writes whole lines to the log. False: they are lost.
+    pub(crate) fn log_lines(&self, text: &[u8]) -> bool {
+        let Some(log) = &self.log else {
+            return false;
+        };
+        let is_written = log.put(text);
+        if !is_written {
+            self.say_log(log.lose());
+        }
+        is_written
+    }
+
+    /// How many lines of the log were lost.
+    pub(crate) fn lost(&self) -> u64 {
+        match &self.log {
+            Some(log) => log.lost(),
+            None => 0,
+        }
+    }
+
+    /// Says that a line of the feed is refused, and writes it to the log, if there is one.
     pub(crate) fn say_refused(&self, line: u64, fault: &str) {
+        if let Some(log) = &self.log {
+            self.say_log(log.write_refused(line, fault));
+        }
         if let Ok(text) = format!(in self.rt.alloc(); "line {line}: {fault}") {
             self.say(text.as_str());
         }
@@ -163,9 +209,13 @@ impl LaneTeller {
         }
     }
 
-    /// A letter was taken.
-    pub(crate) fn taken(&mut self) {
+    /// A letter was taken: that is written to the log, if there is one.
+    pub(crate) fn taken(&mut self, letter: &Letter) {
         self.failed = None;
+        if let Some(log) = &self.teller.log {
+            self.teller
+                .say_log(log.write_taken(self.lane.as_str(), letter));
+        }
     }
 
     /// A try of a letter has failed.

@@ -52,6 +52,27 @@ impl<T: Threads> Watcher for RunWatcher<'_, T> {
     }
 }
 
+/// Has the thread that shows what is counted end before lines are written. It doesn't wait for it.
+#[derive(Drop)]
+pub(crate) struct WayMaker {
+    counts: Arc<Counts, Global>,
+}
+
+impl WayMaker {
+    /// Of the thread that shows these.
+    pub(crate) fn new(counts: Arc<Counts, Global>) -> WayMaker {
+        WayMaker { counts }
+    }
+}
+
+impl Watcher for WayMaker {
+    fn tell(&mut self, _progress: Progress) {}
+
+    fn make_way(&mut self) {
+        self.counts.end();
+    }
+}
+
 /// Starts the thread that shows what is counted, where standard error is a terminal.
 fn start<T: Threads>(
     rt: &HostRuntime,
