@@ -4,6 +4,7 @@ use Rattle.std.specs.Arc.{arc_value}
 use Rattle.std.specs.List.Sorted.{IsPermutation}
 use Rattle.due_model.specs.declared.notice.Notice.{Notice}
 use Rattle.journaled.specs.Claims.{Past}
+use Rattle.journaled.specs.Runs.{since}
 use Rattle.earlier_runs.specs.declared.state.LaneState.{LaneState}
 
 -- what a channel of the lane goes by
@@ -17,3 +18,8 @@ pub record IsState (from : ℕ) (settled begun : List Notice) (state : LaneState
   pub begun_are : IsPermutation begun (past_in state).begun
   pub first : state.from ≡ from
   pub count : state.earlier ≡ length settled
+  pub sent : state.sent ≡ length (since from settled)
+
+-- some journals leave it
+abbrev pub IsOfJournals : LaneState → Type 0
+IsOfJournals state = (from : ℕ) × (settled : List Notice) × (begun : List Notice) × IsState from settled begun state

@@ -1,7 +1,10 @@
 //! What the feed makes due, against what the journals say was sent of it.
 
-ghost use Rattle.std.specs.Prelude.{◌≡◌, ⊤};
+ghost use Rattle.std.specs.Prelude.{◌≡◌, ◌≤◌, ◌-◌, ◌==◌, ℕ, [], map, IfOk, IfSome, if◌then◌else◌, length, slice_index_or};
+ghost use Rattle.due_feed.specs.Seen.{due_of, past_of, unread};
 ghost use Rattle.due_model.specs.Accepted.{IsAccepted};
+ghost use Rattle.event_feed.specs.Feed.{Answer, AreGivenBy};
+ghost use Rattle.earlier_runs.specs.Compared.{IsClaimed, IsFirstLeft, TellsChange, claims_of};
 
 use crate::state::LaneState;
 use due_feed::{LookFault, Looker, look_through};
@@ -25,29 +28,35 @@ pub enum Change {
 #[derive(Drop)]
 struct Comparing<'s> {
     states: &'s [LaneState],
-    /// How many of each lane were sent just as they are due.
-    held: Vec<u64>,
-    /// The first that wasn't.
+    /// How many of each lane that were sent weren't due yet.
+    left: Vec<u64>,
+    /// The first that wasn't sent just as it is due.
     differs: Option<Notice>,
 }
 
-impl Comparing<'_> {
-    /// Counts a notice of a lane that was sent just as it is due.
-    fn count(&mut self, lane: LaneId) {
-        if let Some(held) = self.held.as_mut_slice().get_mut(usize::from(lane.0)) {
-            *held = held.saturating_add(1);
-        }
+/// One less at this place, if there is one.
+fn take_one(left: &mut [u64], place: usize)
+    ensures { (l : ℕ) → slice_index_or left.new l 0
+        ≡ slice_index_or left.old l 0 - (if l == place then 1 else 0) }
+{
+    if place < left.len() {
+        left[place] = left[place].saturating_sub(1);
     }
 }
 
 impl Looker for Comparing<'_> {
-    ghost use Rattle.std.specs.Prelude.{⊤};
+    ghost use Rattle.earlier_runs.specs.Compared.{HasCompared, StopsAt};
+    ghost use Rattle.earlier_runs.specs.ComparedLaws.{compared_more, compared_none};
 
-    ghost saw = { λ _ _ _. ⊤ };
+    ghost saw = { λ a notices b. HasCompared a.states.now a.left.items a.differs notices
+        b.states.now b.left.items b.differs };
 
-    ghost stays = { λ _. tt };
+    ghost stays = { λ s. compared_none s.states.now s.left.items s.differs };
 
-    ghost follows = { λ _ _ _ _ _ _ _. tt };
+    ghost follows = { λ a b c one two. compared_more a.states.now b.states.now c.states.now
+        a.left.items b.left.items c.left.items a.differs b.differs c.differs one two };
+
+    ghost stops = { λ a notice b. StopsAt a.states.now notice b.states.now b.differs };
 
     fn see(&mut self, notice: &Notice) -> Result<(), LookFault> {
         let Some(state) = self.states.get(usize::from(notice.lane.0)) else {
@@ -59,7 +68,7 @@ impl Looker for Comparing<'_> {
         match state.past.find(notice) {
             Claim::New => Ok(()),
             Claim::Held => {
-                self.count(notice.lane);
+                take_one(self.left.as_mut_slice(), usize::from(notice.lane.0));
                 Ok(())
             }
             Claim::Differs => {
@@ -79,35 +88,51 @@ pub fn change_of<R: Input + Drop>(
     feed: R,
 ) -> Result<Option<Change>, AllocError>
     requires accepted { IsAccepted config.now }
+    requires few { length states.now ≤ 256 }
+    // It tells of a change exactly where one is.
+    ensures change { IfOk result (λ found. (given : List Answer)
+        × AreGivenBy R.can_fail config.now.objects (unread (R.remaining feed)) given
+        × TellsChange states.now (due_of config.now zone.now (past_of given)) found) }
 {
-    let mut held = Vec::with_capacity(alloc, states.len())?;
-    for _state in states {
-        held.push(0)?;
-    }
+    let left = sent_of(alloc, states)?;
     let mut comparing = Comparing {
         states,
-        held,
+        left,
         differs: None,
     };
     match look_through(alloc, config, zone, feed, &mut comparing) {
-        Err(LookFault::NoMemory) => return Err(AllocError),
-        Err(LookFault::Stopped) => {
-            if let Some(notice) = comparing.differs {
-                return Ok(Some(Change::Differs(notice)));
-            }
-        }
-        Ok(_count) => {}
+        Ok(_count) => Ok(first_left(&comparing.left)),
+        Err(LookFault::Stopped) => Ok(difference(comparing.differs)),
+        Err(LookFault::NoMemory) => Err(AllocError),
     }
-    Ok(first_gone(states, &comparing.held))
 }
 
-/// The first lane of which fewer were sent just as they are due than were sent.
-fn first_gone(states: &[LaneState], held: &[u64]) -> Option<Change> {
-    for (number, state) in states.iter().enumerate() {
-        let here = held.get(number).copied().unwrap_or(0);
-        if here < state.sent {
-            return Some(Change::Gone(LaneId(number.min(255) as u8), state.sent - here));
-        }
+/// That a notice differs, if there is one.
+fn difference(differs: Option<Notice>) -> Option<Change>
+    ensures { IfSome differs (λ notice. result ≡ Some (Change.Differs notice)) }
+{
+    match differs {
+        Some(notice) => Some(Change::Differs(notice)),
+        None => None,
     }
-    None
+}
+
+/// How many letters of each lane were sent. A refused growth is the only error.
+fn sent_of(alloc: Global, states: &[LaneState]) -> Result<Vec<u64>, AllocError>
+    ensures { IfOk result (λ sent. sent.items ≡ map (λ state. state.sent) states.now) }
+{
+    let mut sent = Vec::with_capacity(alloc, states.len())?;
+    for state in states {
+        sent.push(state.sent)?;
+    }
+    Ok(sent)
+}
+
+/// The first lane of which something is left.
+fn first_left(left: &[u64]) -> Option<Change>
+    requires few { length left.now ≤ 256 }
+    ensures { IsFirstLeft left.now result }
+{
+    let place = left.iter().position(|count| *count > 0)?;
+    Some(Change::Gone(LaneId(place as u8), left[place]))
 }

@@ -1,7 +1,9 @@
 //! What is due so far and was never sent is given up, and a run goes on from there.
 
-ghost use Rattle.std.specs.Prelude.{◌≡◌, ⊤};
+ghost use Rattle.std.specs.Prelude.{◌≡◌, length, IfOk, List, ⊤};
 ghost use Rattle.std.specs.Arc.{arc_value};
+ghost use Rattle.due_feed.specs.Seen.{past_of, unread};
+ghost use Rattle.event_feed.specs.Feed.{Answer, AreGivenBy};
 ghost use Rattle.due_model.specs.Accepted.{IsAccepted};
 
 use crate::state::{LaneState, lane_state};
@@ -29,6 +31,8 @@ impl Looker for Counting {
 
     ghost follows = { λ _ _ _ _ _ _ _. tt };
 
+    ghost stops = { λ _ _ _. ⊤ };
+
     fn see(&mut self, _notice: &Notice) -> Result<(), LookFault> {
         Ok(())
     }
@@ -52,6 +56,8 @@ impl Looker for GivingUp<'_> {
     ghost stays = { λ _. tt };
 
     ghost follows = { λ _ _ _ _ _ _ _. tt };
+
+    ghost stops = { λ _ _ _. ⊤ };
 
     fn see(&mut self, notice: &Notice) -> Result<(), LookFault> {
         let place = usize::from(notice.lane.0);
@@ -80,6 +86,9 @@ pub fn events_of<R: Input + Drop>(
     feed: R,
 ) -> Result<u64, AllocError>
     requires accepted { IsAccepted config.now }
+    ensures count { IfOk result (λ count. (given : List Answer)
+        × AreGivenBy R.can_fail config.now.objects (unread (R.remaining feed)) given
+        × (count ≡ length (past_of given))) }
 {
     match look_through(alloc, config, zone, feed, &mut Counting) {
         Ok(count) => Ok(count),

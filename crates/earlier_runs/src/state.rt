@@ -1,7 +1,9 @@
 //! What earlier runs left of each lane.
 
-ghost use Rattle.std.specs.Prelude.{◌≡◌, ◌++◌, IfOk};
-ghost use Rattle.earlier_runs.specs.State.{IsState};
+ghost use Rattle.std.specs.Prelude.{◌≡◌, ◌≤◌, length, All, IfOk};
+ghost use Rattle.std.specs.Arc.{arc_value};
+ghost use Rattle.journaled.specs.Runs.{since};
+ghost use Rattle.earlier_runs.specs.State.{IsOfJournals, IsState};
 
 use due_model::config::{Config, LaneId};
 use due_model::notice::Notice;
@@ -23,6 +25,7 @@ pub struct LaneState {
     pub earlier: u64,
     /// How many of these are of the events from which on letters are handed over.
     pub sent: u64,
+    ghost first: { (arc_value past).from ≡ from },
 }
 
 /// What earlier runs left of a lane, of which this was read. A refused growth is the only error.
@@ -35,7 +38,7 @@ pub fn lane_state(
     ensures { IfOk result (IsState from settled.items begun.items) }
 {
     let earlier = settled.len() as u64;
-    let sent = count_since(from, &settled);
+    let sent = count_since(from, &settled) as u64;
     Ok(LaneState {
         past: Arc::new(alloc, Past::new(from, settled, begun))?,
         from,
@@ -45,14 +48,11 @@ pub fn lane_state(
 }
 
 /// How many notices are of the events from this one on.
-fn count_since(from: u64, notices: &[Notice]) -> u64 {
-    let mut count: u64 = 0;
-    for notice in notices {
-        if notice.event >= from {
-            count = count.saturating_add(1);
-        }
-    }
-    count
+fn count_since(from: u64, notices: &[Notice]) -> usize
+    ensures { result ≡ length (since from notices.now) }
+{
+    let found = notices.iter().filter(|notice| from <= notice.event);
+    found.count()
 }
 
 /// What earlier runs left of each lane, in their order. Where letters in doubt are dropped each is given up in the lane's first journal.
@@ -61,27 +61,44 @@ pub fn states_of(
     folder: &Folder,
     config: &Arc<Config, Global>,
     drops_doubt: bool,
-) -> Result<Vec<LaneState>, FolderFault> {
+) -> Result<Vec<LaneState>, FolderFault>
+    ensures few { IfOk result (λ states. length states.items ≤ 256) }
+    // Each is what some journals leave.
+    ensures each { IfOk result (λ states. All IsOfJournals states.items) }
+{
     let mut states = Vec::new(alloc);
     let lanes = config.lanes.len().min(256);
     for number in 0..lanes {
-        let lane = LaneId(number as u8);
-        let read = folder.read_lane(config, lane)?;
-        let given_up = if drops_doubt {
-            give_up(alloc, folder, config, lane, &read)?
-        } else {
-            Vec::new(alloc)
-        };
-        let LanePast {
-            from,
-            settled,
-            begun,
-        } = read;
-        let mut settled = settled;
-        settled.extend_from_slice(&given_up)?;
-        states.push(lane_state(alloc, from, settled, begun)?)?;
+        let state = state_of(alloc, folder, config, LaneId(number as u8), drops_doubt)?;
+        states.push(state)?;
     }
     Ok(states)
+}
+
+/// What earlier runs left of a lane.
+fn state_of(
+    alloc: Global,
+    folder: &Folder,
+    config: &Arc<Config, Global>,
+    lane: LaneId,
+    drops_doubt: bool,
+) -> Result<LaneState, FolderFault>
+    ensures { IfOk result IsOfJournals }
+{
+    let read = folder.read_lane(config, lane)?;
+    let given_up = if drops_doubt {
+        give_up(alloc, folder, config, lane, &read)?
+    } else {
+        Vec::new(alloc)
+    };
+    let LanePast {
+        from,
+        settled,
+        begun,
+    } = read;
+    let mut settled = settled;
+    settled.extend_from_slice(&given_up)?;
+    Ok(lane_state(alloc, from, settled, begun)?)
 }
 
 /// Gives up what of a lane is in doubt.

@@ -1,7 +1,7 @@
 //! What a run that goes on is given up for.
 
 ghost use Rattle.std.specs.Prelude.{◌≡◌, IfOk};
-ghost use Rattle.run_resumed.specs.Fault.{resume_status};
+ghost use Rattle.run_resumed.specs.Fault.{IsNoChannelFault, resume_status};
 
 use channel_words::ChannelFault;
 use command_output::{CommandFault, exit_status};
@@ -93,6 +93,11 @@ impl<T: Drop> From<AllocFailed<T>> for ResumeFault<'_> {
     }
 }
 
+/// Says on standard error that the feed can't be read again, so that nothing can be compared.
+pub(crate) fn say_unread<R: Eprint>(rt: &R, feed: &str) {
+    let _ = rt.eprintln(format_args!("state: {feed}: not opened"));
+}
+
 /// Says on standard error why the journals of a folder can't be had.
 pub(crate) fn told<'a, R: Eprint>(
     rt: &R,
@@ -100,7 +105,9 @@ pub(crate) fn told<'a, R: Eprint>(
     folder: &str,
     config: &Config,
     fault: FolderFault,
-) -> ResumeFault<'a> {
+) -> ResumeFault<'a>
+    ensures { IsNoChannelFault result }
+{
     if fault == FolderFault::NoMemory {
         return ResumeFault::Run(RunFault::Command(CommandFault::NoMemory));
     }

@@ -1,7 +1,7 @@
 //! The lines of what a run's journals come to.
 
-ghost use Rattle.std.specs.Prelude.{◌≡◌, ◌++◌, map, IfOk, OnOk};
-ghost use Rattle.run_resumed.specs.JournalLines.{taken_by};
+ghost use Rattle.std.specs.Prelude.{◌≡◌, ◌++◌, ℕ, List, Some, map, slice_get, IfOk, OnOk};
+ghost use Rattle.run_resumed.specs.JournalLines.{HasLines, IsLine, taken_by};
 ghost use Rattle.written.specs.Written.{Writes, WritesFront};
 
 use crate::posts::ResumedChannel;
@@ -42,10 +42,33 @@ fn push_lane(
     lane: LaneId,
     state: &LaneState,
     channels: &[ResumedChannel],
-) -> Result<(), AllocError> {
+) -> Result<(), AllocError>
+    ensures { OnOk result ((line : List ℕ) × (text.new.items ≡ text.old.items ++ line)
+        × IsLine config.now lane.0 (Some state.now) (Some channels.now) line) }
+{
     let taken = taken_by(alloc, channels)?;
     let tally = tally_of(alloc, &state.past, state.earlier, &taken)?;
     push_tally(text, config, lane, tally)
+}
+
+/// Adds the line of the lane of this number, if there is one.
+fn push_number(
+    text: &mut Vec<u8>,
+    alloc: Global,
+    config: &Config,
+    number: u8,
+    states: &[LaneState],
+    channels: &[Vec<ResumedChannel>],
+) -> Result<(), AllocError>
+    ensures { OnOk result ((line : List ℕ) × (text.new.items ≡ text.old.items ++ line)
+        × IsLine config.now number (slice_get states.now number)
+        (slice_get (map (λ cs. cs.items) channels.now) number) line) }
+{
+    let place = usize::from(number);
+    if let (Some(state), Some(of_lane)) = (states.get(place), channels.get(place)) {
+        push_lane(text, alloc, config, LaneId(number), state, of_lane)?;
+    }
+    Ok(())
 }
 
 /// The lines of all lanes, in order.
@@ -54,13 +77,12 @@ fn lines_of(
     config: &Config,
     states: &[LaneState],
     channels: &[Vec<ResumedChannel>],
-) -> Result<Vec<u8>, AllocError> {
+) -> Result<Vec<u8>, AllocError>
+    ensures { IfOk result (λ text. HasLines config.now states.now (map (λ cs. cs.items) channels.now) 256 text.items) }
+{
     let mut text = Vec::new(alloc);
-    for number in 0..=u8::MAX {
-        let place = usize::from(number);
-        if let (Some(state), Some(of_lane)) = (states.get(place), channels.get(place)) {
-            push_lane(&mut text, alloc, config, LaneId(number), state, of_lane)?;
-        }
+    for number in 0..256_u16 {
+        push_number(&mut text, alloc, config, number as u8, states, channels)?;
     }
     Ok(text)
 }
@@ -87,7 +109,11 @@ pub(crate) fn write_journal_lines<W: Sink>(
     states: &[LaneState],
     channels: &[Vec<ResumedChannel>],
     writer: &mut W,
-) -> Result<(), CommandFault> {
+) -> Result<(), CommandFault>
+    ensures { OnOk result ((text : List ℕ)
+        × HasLines config.now states.now (map (λ cs. cs.items) channels.now) 256 text
+        × Writes (W.contents writer.old) (W.contents writer.new) text) }
+{
     let text = lines_of(alloc, config, states, channels)?;
     write_whole(writer, &text)
 }

@@ -1,13 +1,22 @@
 //! A run that goes on.
 
-ghost use Rattle.std.specs.Prelude.{◌≡◌, IfErr, IfOk};
+ghost use Rattle.std.specs.Prelude.{◌≡◌, ◌≤◌, ℕ, [], is_none, length, map, unwrap_or, All, IfErr, IfOk, OnOk};
 ghost use Rattle.std.specs.Arc.{arc_value};
+ghost use Rattle.std.specs.Option.{option_map};
+ghost use Rattle.channel_words.specs.Lanes.{channels_for};
+ghost use Rattle.due_feed.specs.Seen.{due_of, past_of};
 ghost use Rattle.due_model.specs.Accepted.{IsAccepted};
+ghost use Rattle.event_feed.specs.Feed.{Answer};
+ghost use Rattle.run_devices.specs.Channels.{numbered_from, opened};
+ghost use Rattle.earlier_runs.specs.Compared.{IsSame};
+ghost use Rattle.run_resumed.specs.Fault.{IsNoChannelFault, ResumeFails};
+ghost use Rattle.run_resumed.specs.Resumed.{IsGoneOn, ResumesWith};
 
-use crate::fault::{ResumeFault, say_change, told};
+use crate::fault::{ResumeFault, say_change, say_unread, told};
 use crate::journal_lines::write_journal_lines;
 use crate::posts::{ResumedChannel, resumed_posts};
 use crate::settings::{ResumedSettings, StateSettings};
+use channel::Channel;
 use channel_words::read_words;
 use command_output::{CommandFault, Ending, Sink};
 use due_model::config::{Config, LaneId};
@@ -15,6 +24,7 @@ use due_model::zone::Zone;
 use earlier_runs::{LaneState, change_of, events_of, give_up_all, states_of};
 use journal_folder::{Folder, FolderFault};
 use run_devices::channels::{OpenedChannel, open_channels};
+use run_devices::counted::CountedChannel;
 use run_devices::run::{checked, posts_of, run_posts, texts_of};
 use run_devices::{RunFault, RunSettings, Watched};
 use std::alloc::Global;
@@ -29,6 +39,7 @@ use text_lines::{AnyReader, Input};
 struct Kept {
     folder: Folder,
     states: Vec<LaneState>,
+    ghost few: { length states.items ≤ 256 },
 }
 
 /// What a run leaves that went on.
@@ -52,7 +63,20 @@ pub fn do_resumed_run<'a, T: Threads + Wait + Clock + Sync, R: Input + Drop, W: 
     channels: Option<&[&'a str]>,
     feed: R,
     writer: &mut W,
-) -> Result<Resumed, ResumeFault<'a>> {
+) -> Result<Resumed, ResumeFault<'a>>
+    // It is done only where all checks of the words went well, and what the feed's file makes due is what was sent. Its channels are those
+    // of the words, each over a journal of its lane; of what they took, what no earlier run settled is what the channels below have taken.
+    ensures ok { let texts = map (λ text. text.now)
+        (unwrap_or (option_map (λ given. given.now) channels.entry) [])
+        in IfOk result (λ done. IsGoneOn ⟦<CountedChannel<OpenedChannel> as Channel>⟧.account
+        ⟦<ResumedChannel as Channel>⟧.account ⟦<ResumedChannel as Channel>⟧.offered (λ cs. cs.items) (λ c. opened c.channel)
+        texts R.can_fail (is_none settings.run.ahead) zone.now settings.run.settings.tries done.channels.items
+        (R.remaining feed) done.ending (W.contents writer.old) (W.contents writer.new)) }
+    // What it fails with, and that the earlier checks went well.
+    ensures fault { let texts = map (λ text. text.now)
+        (unwrap_or (option_map (λ given. given.now) channels.entry) [])
+        in IfErr result (ResumeFails texts) }
+{
     let alloc = rt.alloc();
     let words = read_words(alloc, texts_of(channels))?;
     let Ok(file) = File::open(rt, objects) else {
@@ -77,32 +101,39 @@ fn kept_of<'a>(
     is_quiet: bool,
 ) -> Result<Kept, ResumeFault<'a>>
     requires accepted { IsAccepted (arc_value config.now) }
+    ensures fault { IfErr result IsNoChannelFault }
 {
-    match read_kept(rt, config, zone, settings, is_quiet) {
+    let mut feeds = None;
+    if settings.from_now {
+        let (Ok(first), Ok(second)) = (File::open(rt, settings.feed), File::open(rt, settings.feed))
+        else {
+            say_unread(rt, settings.feed);
+            return Err(ResumeFault::State);
+        };
+        feeds = Some((first, second));
+    }
+    match read_kept(rt, config, zone, settings, feeds, is_quiet) {
         Ok(kept) => Ok(kept),
         Err(fault) => Err(told(rt, rt.alloc(), settings.folder, config, fault)),
     }
 }
 
-/// What earlier runs left, once what is due so far is given up, where that is asked for.
+/// What earlier runs left, once what is due so far is given up, where the feed is given for that: to count its events, and to go through it.
 fn read_kept(
     rt: &HostRuntime,
     config: &Arc<Config, Global>,
     zone: &Zone,
     settings: StateSettings<'_>,
+    feeds: Option<(File, File)>,
     is_quiet: bool,
 ) -> Result<Kept, FolderFault>
     requires accepted { IsAccepted (arc_value config.now) }
 {
     let alloc = rt.alloc();
     let folder = Folder::open(rt, settings.folder, is_quiet)?;
-    if settings.from_now {
-        if let Ok(feed) = File::open(rt, settings.feed) {
-            let from = events_of(alloc, config, zone, AnyReader::new(feed))?;
-            if let Ok(feed) = File::open(rt, settings.feed) {
-                give_up_all(alloc, &folder, config, zone, from, AnyReader::new(feed))?;
-            }
-        }
+    if let Some((first, second)) = feeds {
+        let from = events_of(alloc, config, zone, AnyReader::new(first))?;
+        give_up_all(alloc, &folder, config, zone, from, AnyReader::new(second))?;
     }
     let states = states_of(alloc, &folder, config, settings.drops_doubt)?;
     Ok(Kept { folder, states })
@@ -117,10 +148,14 @@ fn unchanged<'a>(
     kept: &Kept,
 ) -> Result<(), ResumeFault<'a>>
     requires accepted { IsAccepted (arc_value config.now) }
+    ensures same { OnOk result ((due : List Answer)
+        × IsSame kept.now.states.items (due_of (arc_value config.now) zone.now (past_of due))) }
+    ensures fault { IfErr result IsNoChannelFault }
 {
     let alloc = rt.alloc();
     let Ok(feed) = File::open(rt, settings.feed) else {
-        return Ok(());
+        say_unread(rt, settings.feed);
+        return Err(ResumeFault::State);
     };
     let Some(change) = change_of(alloc, config, zone, &kept.states, AnyReader::new(feed))? else {
         return Ok(());
@@ -141,7 +176,17 @@ fn resume<'a, T: Threads + Wait + Clock + Sync, R: Input + Drop, W: Sink>(
     kept: Kept,
     feed: R,
     writer: &mut W,
-) -> Result<Resumed, ResumeFault<'a>> {
+) -> Result<Resumed, ResumeFault<'a>>
+    requires accepted { IsAccepted (arc_value config.now) }
+    requires each { length opened.items ≡ length lanes.now }
+    requires few { (l : ℕ) → channels_for lanes.now l ≤ 8 }
+    ensures report { IfOk result (λ done. ResumesWith ⟦<CountedChannel<OpenedChannel> as Channel>⟧.account
+        ⟦<ResumedChannel as Channel>⟧.account ⟦<ResumedChannel as Channel>⟧.offered (λ cs. cs.items) (λ c. c.channel)
+        R.can_fail (is_none settings.run.ahead) (arc_value config.now) zone.now settings.run.settings.tries
+        kept.states.items lanes.now (numbered_from 0 opened.items) done.channels.items
+        (R.remaining feed) done.ending (W.contents writer.old) (W.contents writer.new)) }
+    ensures fault { IfErr result IsNoChannelFault }
+{
     let alloc = rt.alloc();
     let watched = Watched::new(rt, threads, settings.run.quiet)?;
     let posts = posts_of(
