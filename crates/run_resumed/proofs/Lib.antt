@@ -1,1 +1,2 @@
+pub mod HandedLaws
 mod PostLaws
