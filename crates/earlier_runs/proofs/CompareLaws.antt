@@ -1,5 +1,5 @@
 -- What one letter that is due does to a comparison, and what is told in the end.
-use Rattle.std.proofs.Common.{◌≡◌, ◌≢◌, ℕ, ◌-◌, ◌<◌, ◌≤◌, ◌&&◌, ◌==◌, Bool, true, false, cond, not, nat_lt, All, List, [], ◌∷◌, filter, length, get_or, map, Option, None, Some, refl, sym, ap, ◌∙◌, subst, arith}
+use Rattle.std.proofs.Common.{◌≡◌, ℕ, ◌-◌, ◌≤◌, ◌&&◌, ◌==◌, Bool, true, false, cond, not, nat_lt, All, List, [], ◌∷◌, filter, length, get_or, Option, None, Some, refl, sym, ap, ◌∙◌, subst, arith}
 use Rattle.std.specs.Prelude.{slice_get}
 use Rattle.std.specs.Option.{option_map_or}
 use Rattle.std.proofs.lemmas.Bool.{eq-eqb, ne_eqb, true≢false}
@@ -7,7 +7,7 @@ use Rattle.std.proofs.lemmas.List.Elements.{All-nil, All-push}
 use Rattle.due_model.specs.declared.notice.Notice.{Notice}
 use Rattle.journaled.specs.Claims.{IsHeld, is_settled}
 use Rattle.earlier_runs.specs.declared.state.LaneState.{LaneState}
-use Rattle.earlier_runs.specs.Compared.{Differs, HasCompared, NoneDiffers, claims_of, is_claimed}
+use Rattle.earlier_runs.specs.Compared.{Differs, HasCompared, claims_of, is_claimed}
 use Rattle.earlier_runs.specs.State.{past_in}
 
 -- it is of an event from which on letters are handed over, and settled

@@ -1,7 +1,6 @@
 -- What the feed makes due, against what the journals say was sent of it.
-use Rattle.std.specs.Prelude.{◌≡◌, ℕ, ◌-◌, ◌<◌, ◌≤◌, ◌==◌, ◌&&◌, All, Bool, false, not, nat_lt, Contains, List, [], filter, length, slice_get, slice_index_or, Option, None, Some}
+use Rattle.std.specs.Prelude.{◌≡◌, ℕ, ◌-◌, ◌<◌, ◌≤◌, ◌==◌, ◌&&◌, All, Bool, not, nat_lt, Contains, List, filter, length, slice_get, slice_index_or, Option, None, Some}
 use Rattle.std.specs.Option.{option_map_or}
-use Rattle.due_model.specs.declared.config.LaneId.{LaneId}
 use Rattle.due_model.specs.declared.notice.Notice.{Notice}
 use Rattle.journaled.specs.Claims.{IsHeld, is_settled}
 use Rattle.earlier_runs.specs.declared.compared.Change.{Change}

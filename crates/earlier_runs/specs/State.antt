@@ -1,5 +1,5 @@
 -- What earlier runs left of each lane, as it is read.
-use Rattle.std.specs.Prelude.{◌≡◌, ℕ, List, ◌++◌, length}
+use Rattle.std.specs.Prelude.{◌≡◌, ℕ, List, length}
 use Rattle.std.specs.Arc.{arc_value}
 use Rattle.std.specs.List.Sorted.{IsPermutation}
 use Rattle.due_model.specs.declared.notice.Notice.{Notice}

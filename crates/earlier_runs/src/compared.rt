@@ -1,10 +1,10 @@
 //! What the feed makes due, against what the journals say was sent of it.
 
-ghost use Rattle.std.specs.Prelude.{◌≡◌, ◌≤◌, ◌-◌, ◌==◌, ℕ, [], map, IfOk, IfSome, if◌then◌else◌, length, slice_index_or};
+ghost use Rattle.std.specs.Prelude.{◌≡◌, ◌≤◌, ◌-◌, ◌==◌, ℕ, [], map, IfOk, IfSome, Some, if◌then◌else◌, length, slice_index_or};
 ghost use Rattle.due_feed.specs.Seen.{due_of, past_of, unread};
 ghost use Rattle.due_model.specs.Accepted.{IsAccepted};
 ghost use Rattle.event_feed.specs.Feed.{Answer, AreGivenBy};
-ghost use Rattle.earlier_runs.specs.Compared.{IsClaimed, IsFirstLeft, TellsChange, claims_of};
+ghost use Rattle.earlier_runs.specs.Compared.{IsFirstLeft, TellsChange};
 
 use crate::state::LaneState;
 use due_feed::{LookFault, Looker, look_through};

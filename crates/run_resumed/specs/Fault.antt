@@ -1,7 +1,5 @@
 -- What a run that goes on is given up for, and how the program then ends.
 use Rattle.std.specs.Prelude.{ℕ, List, ⊤}
-use Rattle.channel_words.specs.declared.word.ChannelWord.{ChannelWord}
-use Rattle.channel_words.specs.Words.{AreRead}
 use Rattle.due_model.specs.declared.config.Config.{Config}
 use Rattle.due_model.specs.declared.config.LaneId.{LaneId}
 use Rattle.run_devices.specs.Fault.{AreRight, IsCommandFault, RunFails, run_fault_status}
