@@ -1,1 +1,2 @@
 pub mod FileName
+pub mod Known

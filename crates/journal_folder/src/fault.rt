@@ -1,5 +1,7 @@
 //! Why the journals of a folder can't be had.
 
+ghost use Rattle.std.specs.Prelude.{◌≡◌};
+
 use due_model::config::LaneId;
 use journal_text::journal::JournalFault;
 use std::alloc::{AllocError, AllocFailed};

@@ -1,5 +1,9 @@
 //! The lines of a journal one by one, also where some say nothing.
 
+ghost use Rattle.std.specs.Prelude.{◌≡◌, ◌++◌, OnOk};
+ghost use Rattle.journaled.specs.Claims.{settles};
+ghost use Rattle.journal_folder.specs.Known.{begun_said, settled_said, settles_said};
+
 use due_model::config::{Config, LaneId};
 use due_model::notice::Notice;
 use journal_text::entry::Entry;
@@ -33,7 +37,10 @@ pub fn read_known<R: Input + Drop>(
 }
 
 /// Adds what a line says, if it says something.
-fn add_known(read: &mut ReadJournal, entry: Option<Entry>) -> Result<(), AllocError> {
+fn add_known(read: &mut ReadJournal, entry: Option<Entry>) -> Result<(), AllocError>
+    ensures settled { OnOk result (read.new.settled.items ≡ read.old.settled.items ++ settled_said entry) }
+    ensures begun { OnOk result (read.new.begun.items ≡ read.old.begun.items ++ begun_said entry) }
+{
     match entry {
         Some(Entry::Begun(notice)) => read.begun.push(notice)?,
         Some(Entry::Taken(notice)) => read.settled.push(notice)?,
@@ -75,13 +82,21 @@ pub fn find_settled<R: Input + Drop>(
 }
 
 /// Whether an entry settles a notice.
-fn settles(entry: Option<Entry>, notice: &Notice) -> bool {
+fn settles(entry: Option<Entry>, notice: &Notice) -> bool
+    ensures { result ≡ settles_said notice.now entry }
+{
     match entry {
-        Some(Entry::Taken(other)) | Some(Entry::GivenUp(other)) => {
-            other.object.0 == notice.object.0
-                && (notice.event < other.event
-                    || (notice.event == other.event && notice.contact.0 <= other.contact.0))
-        }
-        _ => false,
+        Some(Entry::Begun(_)) | None => false,
+        Some(Entry::Taken(other)) => settles_as(&other, notice),
+        Some(Entry::GivenUp(other)) => settles_as(&other, notice),
     }
+}
+
+/// Whether a letter that was taken or given up is the notice's, or is due after it, of the same object.
+fn settles_as(other: &Notice, notice: &Notice) -> bool
+    ensures { result ≡ settles notice.now other.now }
+{
+    other.object.0 == notice.object.0
+        && (notice.event < other.event
+            || (other.event == notice.event && notice.contact.0 <= other.contact.0))
 }

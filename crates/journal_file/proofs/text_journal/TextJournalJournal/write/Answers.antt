@@ -1,4 +1,4 @@
-use Rattle.std.proofs.Common.{◌≡◌, ◌∷◌, ◌++◌, [], List, ℕ, ap, refl, rules, subst, sym, ◌∙◌}
+use Rattle.std.proofs.Common.{◌≡◌, ◌∷◌, ◌++◌, [], List, ℕ, ap, refl, subst, ◌∙◌}
 use Rattle.std.specs.Arc.{arc_value}
 use Rattle.std.specs.Io.KnownBytes.{Appends}
 use Rattle.due_model.specs.declared.config.Config.{Config}
@@ -20,6 +20,7 @@ returns-then-write_flushed-clause-wrote g c = λ _.
     let bytes : Appends (g.W.Write.contents c.self.inside.writer) (g.W.Write.contents c.write_flushed.new.writer) c.in-Ok-Some.line.items =
     subst (λ (bs : List ℕ). Appends (g.W.Write.contents c.self.inside.writer) (g.W.Write.contents c.write_flushed.new.writer) bs)
     c.deref-2.ensures.value (c.write_flushed.ensures.whole c.if-write_flushed.true) in
-    subst (λ (a : Text g.row.W.Denot). Wrote g.W.Write.contents a (c.args.entry ∷ []) _) c.self.view_is
-    (wrote_line g.W.Write.contents (record { config = arc_value c.self.inside.config; lane = c.self.inside.lane; writer = c.self.inside.writer; is_broken = c.self.inside.is_broken }) _ refl refl c.if-self.false c.args.entry back
-    c.in-Ok-Some.line.items line bytes)
+    let now : Text g.row.W.Denot = record { config = arc_value c.self.inside.config; lane = c.self.inside.lane; writer = c.write_flushed.new.writer; is_broken = c.self.inside.is_broken } in
+    let was : Text g.row.W.Denot = record { config = arc_value c.self.inside.config; lane = c.self.inside.lane; writer = c.self.inside.writer; is_broken = c.self.inside.is_broken } in
+    subst (λ (a : Text g.row.W.Denot). Wrote g.W.Write.contents a (c.args.entry ∷ []) now) c.self.view_is
+    (wrote_line g.W.Write.contents was now refl refl c.if-self.false c.args.entry back c.in-Ok-Some.line.items line bytes)

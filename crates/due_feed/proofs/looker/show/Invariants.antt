@@ -1,6 +1,6 @@
 use Rattle.std.proofs.Common.{take}
 use Rattle.messages.specs.Entries.{notices_in}
-use Rattle.due_feed.proofs.show.Given as goal
+use Rattle.due_feed.proofs.looker.show.Given as goal
 
 -- it has seen the notices among the first entries
 abbrev pub invariant-loop-entry : goal.invariant-loop-entry
