@@ -21,7 +21,7 @@ _notify_run() {
         "") words="replay trace run who diff -h --help -V --version" ;;
         replay) words="--objects --only --object --contact --json --zone --zone-file -h --help" ;;
         trace) words="--deciders --standbys --queue --tries --zone --zone-file -h --help" ;;
-        run) words="--objects --deciders --queue --tries --timeout --pause --ahead --log --fold --quiet --feed --follow --clock --state --in-doubt --from-now --zone --zone-file -h --help" ;;
+        run) words="--objects --deciders --queue --tries --timeout --pause --ahead --log --fold --quiet --feed --follow --clock --zone --zone-file -h --help" ;;
         who) words="--objects --at --for --down --zone --zone-file -h --help" ;;
         diff) words="--objects --with --json --zone --zone-file -h --help" ;;
     esac

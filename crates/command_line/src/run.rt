@@ -52,14 +52,7 @@ and then, for each command that contacts list,
   G;command;n;count                                        of several words: what number n,
                                                            from 0, has taken
   Z;command;why                                            why it was closed: FeedOver, Failed,
-                                                           NoChannel or NoMemory
-
-and with --state, last,
-
-  J;command;earlier;claimed;new;again                      how many messages earlier runs have
-                                                           settled, how many of those were due
-                                                           again, how many were sent now, and
-                                                           how many of these may have been before";
+                                                           NoChannel or NoMemory";
 
 /// The option that says how often a run tries a message.
 fn run_tries_option<'a>(alloc: Global) -> Arg<'a>
