@@ -10,13 +10,15 @@ pub run-outcome-requires-clause-few : goal.run-outcome-requires-clause-few
 run-outcome-requires-clause-few g c κs within =
     λ l. subst (λ n. n ≤ 8) (sym (same_posted (λ post. post.lane) c.args.posts.items (map (λ post. post.lane) c.args.posts.items) refl l)) (c.requires.few l)
 
-pub returns-clause-report : goal.returns-clause-report
-returns-clause-report g c =
+pub returns : goal.returns
+returns g c =
     let posts = c.args.posts.items in
     let report = c.run-outcome.ensures.report in
-    report_posted g.R.Input.can_fail (is_none c.args.settings.ahead) c.args.config.now c.args.zone.now (count_of (λ post. post.lane.0) posts) (channels_for (map (λ post. post.lane) posts)) _
-    (g.R.Read.remaining c.args.feed) (g.W.Write.contents c.args.writer.now) (g.W.Write.contents c.run-outcome.new.writer) _
-    (same_posted (λ post. post.lane) posts (map (λ post. post.lane) posts) refl)
-    (IfOk-at_ok (λ ending. WritesReport g.R.Input.can_fail (is_none c.args.settings.ahead) c.args.config.now c.args.zone.now (count_of (λ post. post.lane.0) posts) _
-    (g.R.Read.remaining c.args.feed) ending (g.W.Write.contents c.args.writer.now) (g.W.Write.contents c.run-outcome.new.writer))
-    {r = c.run-outcome.result.0} (search rules) report)
+    record {
+      report = report_posted g.R.Input.can_fail (is_none c.args.settings.ahead) c.args.config.now c.args.zone.now (count_of (λ post. post.lane.0) posts) (channels_for (map (λ post. post.lane) posts)) _
+          (g.R.Read.remaining c.args.feed) (g.W.Write.contents c.args.writer.now) (g.W.Write.contents c.run-outcome.new.writer) _
+          (same_posted (λ post. post.lane) posts (map (λ post. post.lane) posts) refl)
+          (IfOk-at_ok (λ ending. WritesReport g.R.Input.can_fail (is_none c.args.settings.ahead) c.args.config.now c.args.zone.now (count_of (λ post. post.lane.0) posts) _
+          (g.R.Read.remaining c.args.feed) ending (g.W.Write.contents c.args.writer.now) (g.W.Write.contents c.run-outcome.new.writer))
+          {r = c.run-outcome.result.0} (search rules) report);
+    }
