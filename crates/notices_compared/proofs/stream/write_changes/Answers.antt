@@ -20,7 +20,7 @@ loop-text-init g c = record {
 }
 
 pub next-requires : goal.next-requires
-next-requires g c = c.loop-text.invariant.compared.one.goes_on
+next-requires g c = record { goes_on = c.loop-text.invariant.compared.one.goes_on }
 
 pub take-requires-clause-fits_before : goal.take-requires-clause-fits_before
 take-requires-clause-fits_before g c = (c.loop-text.invariant.compared.past, c.loop-text.invariant.compared.fits)
