@@ -1,10 +1,10 @@
 //! Two configurations side by side: what each line of a feed changes.
 
-ghost use Rattle.std.specs.Prelude.{◌≡◌, ◌++◌, ◌||◌, List, [], false, length, IfErr, IfOk, OnOk};
+ghost use Rattle.std.specs.Prelude.{◌≡◌, ◌++◌, ◌||◌, ℕ, List, [], false, length, IfErr, IfOk, OnOk};
 ghost use Rattle.std.specs.Prelude.{if◌then◌else◌};
 ghost use Rattle.command_output.specs.declared.outcome.CommandFault.TheVariants.{NoMemory};
 ghost use Rattle.command_output.specs.declared.outcome.Ending.TheVariants.{Short, Whole};
-ghost use Rattle.contact_tallies.specs.Marks.{Mark};
+ghost use Rattle.contact_tallies.specs.Marks.{Mark, marks_after};
 ghost use Rattle.contact_tallies.specs.Tallies.{AreTallies};
 ghost use Rattle.due_model.specs.declared.event.Event.{Event};
 ghost use Rattle.due_model.specs.declared.zone.Zone.{Zone};
@@ -130,17 +130,18 @@ impl<'a> Comparison<'a> {
         self.after.take(pair.second)?;
         let first = event_of(pair.first);
         let second = event_of(pair.second);
-        self.told_before
-            .count(&self.clock, first, self.before.notices.as_slice())?;
-        self.told_after
-            .count(&self.clock, second, self.after.notices.as_slice())?;
+        count(&mut self.told_before, &self.clock, first, &self.before)?;
+        count(&mut self.told_after, &self.clock, second, &self.after)?;
+        let form = self.form;
+        let before = &self.before;
+        let after = &self.after;
         let given = Given {
-            a: self.before.config,
-            b: self.after.config,
-            before: self.before.notices.as_slice(),
-            after: self.after.notices.as_slice(),
+            a: before.config,
+            b: after.config,
+            before: before.notices.as_slice(),
+            after: after.notices.as_slice(),
         };
-        push_changes(self.form, text, &self.clock, given)?;
+        push_changes(form, text, &self.clock, given)?;
         Ok(())
     }
 
@@ -186,6 +187,20 @@ fn move_clock(clock: &mut ZoneClock<'_>, _config: &Config, given: Result<Event, 
     if let Ok(event) = given {
         clock.move_to(event.moment);
     }
+}
+
+/// Counts the notices of a line of the feed. A refused growth is the only error.
+fn count(
+    told: &mut Tallies,
+    clock: &ZoneClock<'_>,
+    event: Option<Event>,
+    side: &Side<'_>,
+) -> Result<(), AllocError>
+    ensures { OnOk result ((count : ℕ) (past : List Mark)
+        → AreTallies clock.now count past told.old
+        → AreTallies clock.now count (marks_after past side.now.notices.items event) told.new) }
+{
+    told.count(clock, event, side.notices.as_slice())
 }
 
 /// The event of a line that isn't refused.

@@ -6,8 +6,8 @@ use Rattle.written.specs.WrittenLaws.{front_none}
 use Rattle.notices_compared.proofs.StreamLaws.{compared_cut, compared_held, compared_last, compared_on, compared_start, compared_whole}
 use Rattle.notices_compared.proofs.stream.write_changes.Goals as goal
 
-pub loop-feed-init : goal.loop-feed-init
-loop-feed-init g c = record {
+pub loop-text-init : goal.loop-text-init
+loop-text-init g c = record {
   form = refl;
   before = refl;
   after = refl;
@@ -19,18 +19,18 @@ loop-feed-init g c = record {
       c.requires.goes_on c.requires.fits_before c.requires.fits_after c.requires.ended.0 c.requires.ended.1 c.requires.told_before c.requires.told_after c.new-text.ensures.items;
 }
 
-pub next-requires-clause-goes_on : goal.next-requires-clause-goes_on
-next-requires-clause-goes_on g c = c.loop-feed.invariant.compared.one.goes_on
+pub next-requires : goal.next-requires
+next-requires g c = record { goes_on = c.loop-text.invariant.compared.one.goes_on }
 
 pub take-requires-clause-fits_before : goal.take-requires-clause-fits_before
-take-requires-clause-fits_before g c = (c.loop-feed.invariant.compared.past, c.loop-feed.invariant.compared.fits)
+take-requires-clause-fits_before g c = (c.loop-text.invariant.compared.past, c.loop-text.invariant.compared.fits)
 
 pub take-requires-clause-fits_after : goal.take-requires-clause-fits_after
-take-requires-clause-fits_after g c = (c.loop-feed.invariant.compared.past', c.loop-feed.invariant.compared.fits')
+take-requires-clause-fits_after g c = (c.loop-text.invariant.compared.past', c.loop-text.invariant.compared.fits')
 
-pub loop-feed-preserved : goal.loop-feed-preserved
-loop-feed-preserved g c =
-    let inv = c.loop-feed.invariant in
+pub loop-text-preserved : goal.loop-text-preserved
+loop-text-preserved g c =
+    let inv = c.loop-text.invariant in
     let held = compared_held _ _ _ _ _ _ _ _ _ _ _ _ _ _ _ _ _ _ _ inv.compared c.in_ok-write_before_wait.ensures.ok in
     let gives = rw (inv.before, inv.after) at c.in-Some.ensures.line in
     let took = c.in_ok-take-in-Some.ensures in
@@ -46,28 +46,28 @@ loop-feed-preserved g c =
           (λ past past' s s'. rw (inv.form, inv.before, inv.after, inv.clock, inv.zone_before, inv.zone_after) at (took.text past past' s s'));
     }
 
-pub loop-feed-smaller : goal.loop-feed-smaller
-loop-feed-smaller g c =
-    let less : c.loop-feed.feed.feeder.line < c.next.new.self.feeder.line = c.in-Some.ensures.line.later in
+pub loop-text-smaller : goal.loop-text-smaller
+loop-text-smaller g c =
+    let less : c.loop-text.feed.feeder.line < c.next.new.self.feeder.line = c.in-Some.ensures.line.later in
     let limit : c.next.new.self.feeder.line ≤ feed_limit + 1 = c.next.ensures.limit in
     omega (arith, less, limit)
 
 pub returns-in_err-write_before_wait-clause-front : goal.returns-in_err-write_before_wait-clause-front
-returns-in_err-write_before_wait-clause-front g c = compared_cut _ g.R.Input.can_fail _ _ _ _ _ _ _ _ _ _ _ _ _ _ _ _ _ c.loop-feed.invariant.compared c.in_err-write_before_wait.ensures.front
+returns-in_err-write_before_wait-clause-front g c = compared_cut _ g.R.Input.can_fail _ _ _ _ _ _ _ _ _ _ _ _ _ _ _ _ _ c.loop-text.invariant.compared c.in_err-write_before_wait.ensures.front
 
 pub returns-in_err-take-in-Some-clause-front : goal.returns-in_err-take-in-Some-clause-front
 returns-in_err-take-in-Some-clause-front g c =
-    let held = compared_held _ _ _ _ _ _ _ _ _ _ _ _ _ _ _ _ _ _ _ c.loop-feed.invariant.compared c.in_ok-write_before_wait.ensures.ok in
+    let held = compared_held _ _ _ _ _ _ _ _ _ _ _ _ _ _ _ _ _ _ _ c.loop-text.invariant.compared c.in_ok-write_before_wait.ensures.ok in
     compared_cut _ g.R.Input.can_fail _ _ _ _ _ _ _ _ _ _ _ _ _ _ _ _ _ held (front_none _ _)
 
 pub returns-in_err-push_table-in-None-clause-front : goal.returns-in_err-push_table-in-None-clause-front
 returns-in_err-push_table-in-None-clause-front g c =
-    let held = compared_held _ _ _ _ _ _ _ _ _ _ _ _ _ _ _ _ _ _ _ c.loop-feed.invariant.compared c.in_ok-write_before_wait.ensures.ok in
+    let held = compared_held _ _ _ _ _ _ _ _ _ _ _ _ _ _ _ _ _ _ _ c.loop-text.invariant.compared c.in_ok-write_before_wait.ensures.ok in
     compared_cut _ g.R.Input.can_fail _ _ _ _ _ _ _ _ _ _ _ _ _ _ _ _ _ held (front_none _ _)
 
 pub returns-in_err-write_all-in-None-clause-front : goal.returns-in_err-write_all-in-None-clause-front
 returns-in_err-write_all-in-None-clause-front g c =
-    let inv = c.loop-feed.invariant in
+    let inv = c.loop-text.invariant in
     let held = compared_held _ _ _ _ _ _ _ _ _ _ _ _ _ _ _ _ _ _ _ inv.compared c.in_ok-write_before_wait.ensures.ok in
     let ends = rw (inv.before, inv.after) at c.in-None.ensures.over in
     let adds = rw (inv.form, inv.before, inv.after, inv.clock) at c.in_ok-push_table-in-None.ensures in
@@ -75,7 +75,7 @@ returns-in_err-write_all-in-None-clause-front g c =
 
 pub returns-in-None-clause-front : goal.returns-in-None-clause-front
 returns-in-None-clause-front g c =
-    let inv = c.loop-feed.invariant in
+    let inv = c.loop-text.invariant in
     let held = compared_held _ _ _ _ _ _ _ _ _ _ _ _ _ _ _ _ _ _ _ inv.compared c.in_ok-write_before_wait.ensures.ok in
     let ends = rw (inv.before, inv.after) at c.in-None.ensures.over in
     let adds = rw (inv.form, inv.before, inv.after, inv.clock) at c.in_ok-push_table-in-None.ensures in
@@ -83,7 +83,7 @@ returns-in-None-clause-front g c =
 
 pub returns-in-None-clause-ok : goal.returns-in-None-clause-ok
 returns-in-None-clause-ok g c =
-    let inv = c.loop-feed.invariant in
+    let inv = c.loop-text.invariant in
     let held = compared_held _ _ _ _ _ _ _ _ _ _ _ _ _ _ _ _ _ _ _ inv.compared c.in_ok-write_before_wait.ensures.ok in
     let ends = rw (inv.before, inv.after) at c.in-None.ensures.over in
     let adds = rw (inv.form, inv.before, inv.after, inv.clock) at c.in_ok-push_table-in-None.ensures in

@@ -4,8 +4,8 @@ use Rattle.event_feed.specs.Feed.{feed_limit}
 use Rattle.notices_compared.proofs.StreamLaws.{HasCompared}
 use Rattle.notices_compared.proofs.stream.write_changes.Given as goal
 
-abbrev pub invariant-loop-feed : goal.invariant-loop-feed
-invariant-loop-feed g l = record {
+abbrev pub invariant-loop-text : goal.invariant-loop-text
+invariant-loop-text g l = record {
   form : l.both.form ≡ l.fn.both.form;
   before : l.both.before.config.now ≡ l.fn.both.before.config.now;
   after : l.both.after.config.now ≡ l.fn.both.after.config.now;
@@ -16,5 +16,5 @@ invariant-loop-feed g l = record {
       (core_kept l.both.before.decider) (core_kept l.both.after.decider) l.both.before.ended l.both.after.ended l.both.told_before l.both.told_after l.feed.feeder l.feed.last (g.W.Write.contents l.writer) l.text.items;
 }
 
-abbrev pub decreases-loop-feed : goal.decreases-loop-feed
-decreases-loop-feed g l = feed_limit + 2 - l.feed.feeder.line
+abbrev pub decreases-loop-text : goal.decreases-loop-text
+decreases-loop-text g l = feed_limit + 2 - l.feed.feeder.line

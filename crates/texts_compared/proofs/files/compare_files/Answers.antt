@@ -19,8 +19,8 @@ returns-in-Ok-clause-changes g c =
     compares c.args.form g.O.Input.can_fail g.S.Input.can_fail g.R.Input.can_fail c.args.zone.now (g.O.Read.remaining c.args.before) (g.S.Read.remaining c.args.after) (g.R.Read.remaining c.args.feed)
     (g.W.Write.contents c.args.writer.now) (g.W.Write.contents c.compare.new.writer) c.in_ok-first.first c.in_ok-second.second c.in_ok-first.ensures.config c.in_ok-second.ensures.config c.in-Ok.ending c.in-Ok.ensures.changes
 
-pub returns-in-Err-clause-fault : goal.returns-in-Err-clause-fault
-returns-in-Err-clause-fault g c =
+pub returns-clause-fault : goal.returns-clause-fault
+returns-clause-fault g c =
     fails c.args.form g.O.Input.can_fail g.S.Input.can_fail g.R.Input.can_fail c.args.zone.now (g.O.Read.remaining c.args.before) (g.S.Read.remaining c.args.after) (g.R.Read.remaining c.args.feed)
     (g.W.Write.contents c.args.writer.now) (g.W.Write.contents c.compare.new.writer) c.in_ok-first.first c.in_ok-second.second c.in_ok-first.ensures.config c.in_ok-second.ensures.config
     g.W.Sink.can_fail c.in-Err.fault c.in-Err.ensures.fault c.in-Err.ensures.front
