@@ -26,22 +26,22 @@ form_at c zone =
 
 -- the teller after a line that is asked for
 abbrev taken : Reasons → ReportLine → Reasons
-taken reasons line = record reasons { open = after_line reasons.open line }
+taken reasons line = record reasons { current = after_line reasons.current line }
 
 -- what it writes from here on
 abbrev from_here : Reasons → Config → Zone → List ReportLine → List ℕ
 from_here reasons c zone lines =
-    why_from c zone (option_copied reasons.asked.contact) reasons.open (filter (is_of reasons.asked c) lines)
+    why_from c zone (option_copied reasons.asked.contact) reasons.current (filter (is_of reasons.asked c) lines)
 
 -- one line, and those after it
 one_more : (reasons : Reasons) (c : Config) (zone : Zone) (line : ReportLine) (lines : List ReportLine)
     → told_report (form_at c zone) (taken reasons line) lines ≡ from_here (taken reasons line) c zone lines
     → told_report (form_at c zone) reasons lines ≡ from_here reasons c zone lines
     → (b : Bool)
-    → cond b (line_text c zone (option_copied reasons.asked.contact) reasons.open line) [] ++ told_report (form_at c zone) (cond b (taken reasons line) reasons) lines
-    ≡ why_from c zone (option_copied reasons.asked.contact) reasons.open (cond b (line ∷ filter (is_of reasons.asked c) lines) (filter (is_of reasons.asked c) lines))
+    → cond b (line_text c zone (option_copied reasons.asked.contact) reasons.current line) [] ++ told_report (form_at c zone) (cond b (taken reasons line) reasons) lines
+    ≡ why_from c zone (option_copied reasons.asked.contact) reasons.current (cond b (line ∷ filter (is_of reasons.asked c) lines) (filter (is_of reasons.asked c) lines))
 one_more reasons c zone line lines on same true =
-    ap (λ (text : List ℕ). line_text c zone (option_copied reasons.asked.contact) reasons.open line ++ text) on
+    ap (λ (text : List ℕ). line_text c zone (option_copied reasons.asked.contact) reasons.current line ++ text) on
 one_more reasons c zone line lines on same false = same
 
 told_from : (reasons : Reasons) (c : Config) (zone : Zone) (lines : List ReportLine) → told_report (form_at c zone) reasons lines ≡ from_here reasons c zone lines
@@ -50,7 +50,7 @@ told_from reasons c zone (line ∷ lines) =
     append_assoc (told_line reasons c zone line) (told_all (form_at c zone) (after_told reasons c line) lines) ((form_at c zone).ended (after_all (form_at c zone) (after_told reasons c line) lines))
     ∙ one_more reasons c zone line lines (told_from (taken reasons line) c zone lines) (told_from reasons c zone lines) (is_of reasons.asked c line)
 
-module _ (reasons : Reasons) (asked : Asked) (p : reasons.asked ≡ asked) (q : reasons.open ≡ nothing_open) where
+module _ (reasons : Reasons) (asked : Asked) (p : reasons.asked ≡ asked) (q : reasons.current ≡ nothing_open) where
   report_told : (c : Config) (zone : Zone) (given : List Answer) → told_report (form_at c zone) reasons (report_lines c zone given) ≡ why_report asked c zone given
   report_told c zone given =
       let lines = report_lines c zone given in

@@ -22,10 +22,10 @@ use Rattle.written.specs.Written.{Writes, WritesFront}
 
 -- Of the lines of an object's report, after what is open: what each adds, and at the end how what is open then ends.
 abbrev pub why_from : Config → Zone → (contact : Option (List ℕ)) → Open → List ReportLine → List ℕ
-why_from c zone contact open [] = close_text c zone contact open
-why_from c zone contact open (line ∷ lines) =
-    line_text c zone contact open line
-    ++ why_from c zone contact (after_line open line) lines
+why_from c zone contact current [] = close_text c zone contact current
+why_from c zone contact current (line ∷ lines) =
+    line_text c zone contact current line
+    ++ why_from c zone contact (after_line current line) lines
 
 -- of a report: of its lines that are of what is asked
 abbrev pub why_report : Asked → Config → Zone → List Answer → List ℕ
