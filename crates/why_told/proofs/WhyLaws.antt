@@ -1,5 +1,5 @@
 -- From what is told of a report to what is written of an object's attempts.
-use Rattle.std.proofs.Common.{◌≡◌, ℕ, Bool, true, false, cond, List, [], ◌∷◌, ◌++◌, filter, Option, refl, sym, ap, subst, ◌∙◌, append_assoc}
+use Rattle.std.proofs.Common.{◌≡◌, ℕ, Bool, true, false, cond, List, [], ◌∷◌, ◌++◌, filter, Option, None, Some, IfSome, refl, sym, ap, subst, ◌∙◌, append_assoc}
 use Rattle.std.specs.Option.{option_copied}
 use Rattle.due_model.specs.declared.config.Config.{Config}
 use Rattle.due_model.specs.declared.zone.Zone.{Zone}
@@ -69,3 +69,7 @@ module _ (reasons : Reasons) (asked : Asked) (p : reasons.asked ≡ asked) (q : 
       → tells.TellsFrontFor form_at reasons can_fail config feed zone old new → TellsWhyFront asked can_fail config feed zone old new
   why_front can_fail config feed zone old new h =
       (h.0, h.1, subst (λ text. WritesFront old new text) (report_told config zone h.0) h.2)
+
+pub some_told : {X : Type 0} (known : Option X) (P Q : X → Type 0) → ((x : X) → P x → Q x) → IfSome known P → IfSome known Q
+some_told None P Q f h = tt
+some_told (Some x) P Q f h = f x h
