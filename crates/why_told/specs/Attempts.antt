@@ -31,13 +31,14 @@ nothing_open = record { stopped = None; more = 0; met = [] }
 abbrev pub first_stop : Suppression → Open
 first_stop s = record { stopped = Some s; more = 0; met = [] }
 
--- it goes on with the row that is open
-abbrev pub goes_on : Open → Suppression → Bool
-goes_on current s = goes_on_from current.stopped s
-
+-- it goes on with the row of which that is the last
 abbrev pub goes_on_from : Option Suppression → Suppression → Bool
 goes_on_from None s = false
 goes_on_from (Some before) s = same_stop before s
+
+-- it goes on with the row that is open
+abbrev pub goes_on : Open → Suppression → Bool
+goes_on current s = goes_on_from current.stopped s
 
 abbrev pub after_stop : Open → Suppression → Open
 after_stop current s =

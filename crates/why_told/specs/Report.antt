@@ -1,11 +1,7 @@
 -- What `why` writes of a report, and how it ends.
-use Rattle.std.specs.Prelude.{◌≡◌, ℕ, ◌×◌, Bool, true, false, List, [], ◌∷◌, ◌++◌, filter, is_some, Option, None, Some, if◌then◌else◌, Result, Ok, Err}
+use Rattle.std.specs.Prelude.{◌≡◌, ℕ, Bool, List, [], ◌∷◌, ◌++◌, filter, Option}
 use Rattle.std.specs.Option.{option_copied}
-use Rattle.command_output.specs.Outcome.{IsWriteFault, ending_status, fault_status as command_status, fault_text as command_text}
-use Rattle.command_output.specs.declared.outcome.CommandFault.{CommandFault}
 use Rattle.command_output.specs.declared.outcome.Ending.{Ending}
-use Rattle.command_input.specs.Objects.{IsTextOf}
-use Rattle.due_model.specs.Objects.{object_named}
 use Rattle.due_model.specs.declared.config.Config.{Config}
 use Rattle.due_model.specs.declared.zone.Zone.{Zone}
 use Rattle.event_feed.specs.Feed.{Answer}

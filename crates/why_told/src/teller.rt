@@ -37,7 +37,7 @@ pub struct Reasons<'a> {
 impl<'a> Reasons<'a> {
     /// One that was told no line yet.
     pub(crate) fn new(alloc: Global, asked: Asked<'a>) -> Reasons<'a>
-        ensures asked { result.asked ≡ asked }
+        ensures asked { result.asked ≡ asked.entry }
         ensures current { result.current ≡ nothing_open }
     {
         Reasons {

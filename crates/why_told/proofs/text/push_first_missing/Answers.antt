@@ -7,7 +7,7 @@ use Rattle.why_told.proofs.text.push_first_missing.Goals as goal
 
 pub loop-number-preserved : goal.loop-number-preserved
 loop-number-preserved c =
-    let missing : ℕ → List ℕ = missing_at c.args.config.now (option_copied c.args.asked.entry) c.args.object.0 c.args.lines.now in
+    let missing : ℕ → List ℕ = missing_at c.args.config.now (option_copied c.args.asked) c.args.object.0 c.args.lines.now in
     let number = c.loop-number.number in
     let text = c.args.text.now.items in
     c.in_ok-push_missing_at.ensures
