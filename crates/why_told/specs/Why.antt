@@ -101,7 +101,7 @@ missing_at c asked o lines k =
     if is_missing c asked o lines k then missing_row c o k lines else []
 
 -- who is no receiver of the attempt of these lines, by their numbers
-abbrev pub missing_text : Config → Option (List ℕ) → (o : ℕ) → List ReportLine → List ℕ
+unfoldable pub missing_text : Config → Option (List ℕ) → (o : ℕ) → List ReportLine → List ℕ
 missing_text c asked o lines =
     flat_map (missing_at c asked o lines) (range_with_len 0 65536)
 

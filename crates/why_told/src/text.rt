@@ -300,6 +300,21 @@ fn push_first_missing(
     Ok(())
 }
 
+/// Adds who is missing.
+#[tactic(auto, unfolding(crate::specs::Why::missing_text))]
+fn push_all_missing(
+    text: &mut Vec<u8>,
+    config: &Config,
+    asked: Option<&str>,
+    object: ObjectId,
+    lines: &[ReportLine],
+) -> Result<(), AllocError>
+    ensures { OnOk result (text.new.items ≡ text.old.items
+        ++ missing_text config.now (option_copied asked.entry) object.0 lines.now) }
+{
+    push_first_missing(text, config, asked, object, lines, CONTACTS)
+}
+
 /// The object of a line.
 fn line_object(line: &ReportLine) -> Option<ObjectId>
     ensures { result ≡ line_object line.now }
@@ -326,7 +341,7 @@ fn push_missing(
         return Ok(());
     };
     match line_object(first) {
-        Some(object) => push_first_missing(text, config, asked, object, lines, CONTACTS),
+        Some(object) => push_all_missing(text, config, asked, object, lines),
         None => Ok(()),
     }
 }

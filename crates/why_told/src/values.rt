@@ -5,7 +5,7 @@ ghost use Rattle.std.specs.List.{range_with_len};
 ghost use Rattle.due_model.specs.Due.{rights_for};
 ghost use Rattle.why_told.specs.Values.{contact_filter_text, contact_value, filter_at, filter_text};
 ghost use Rattle.why_told.specs.Values.{host_letters, letter_text, letters_text, other_letters, passed_at, passed_text, period_name, period_text, service_letters};
-ghost use Rattle.why_told.specs.Values.{place_of, right_of, value_of};
+ghost use Rattle.why_told.specs.Values.{object_value, place_of, right_of, value_of};
 
 use due_model::config::{Config, Contact, ContactId, Object, ObjectId, PeriodId, Rights};
 use due_model::notice::Filter;
@@ -73,6 +73,13 @@ pub(crate) fn push_decimal(text: &mut Vec<u8>, number: u64) -> Result<(), AllocE
     text.extend_from_slice(buffer.format(number).as_bytes())
 }
 
+/// Adds a number of minutes in decimal digits.
+fn push_minutes(text: &mut Vec<u8>, minutes: u32) -> Result<(), AllocError>
+    ensures { OnOk result (text.new.items ≡ text.old.items ++ decimal minutes) }
+{
+    push_decimal(text, u64::from(minutes))
+}
+
 /// Adds a letter, where it is in the set.
 fn push_letter(text: &mut Vec<u8>, given: bool, letter: &[u8]) -> Result<(), AllocError>
     ensures { OnOk result (text.new.items ≡ text.old.items ++ letter_text given letter.now) }
@@ -114,6 +121,7 @@ fn push_other_letters(text: &mut Vec<u8>, letters: OptionLetters) -> Result<(), 
 }
 
 /// Adds the letters of a set that such an object can have.
+#[tactic(auto, unfolding(crate::specs::Values::letters_text))]
 fn push_letters(text: &mut Vec<u8>, service: bool, letters: OptionLetters) -> Result<(), AllocError>
     ensures { OnOk result (text.new.items ≡ text.old.items ++ letters_text service letters) }
 {
@@ -173,17 +181,34 @@ fn push_value(
         }
         Filter::FirstDelay => {
             text.extend_from_slice(b" first_notification_delay ")?;
-            push_decimal(text, u64::from(object.delay))
+            push_minutes(text, object.delay)
         }
         Filter::Interval => {
             text.extend_from_slice(b" notification_interval ")?;
-            push_decimal(text, u64::from(object.interval))
+            push_minutes(text, object.interval)
         }
         _ => Ok(()),
     }
 }
 
+/// Adds what the object of a number has for a filter.
+fn push_object_value(
+    text: &mut Vec<u8>,
+    config: &Config,
+    object: ObjectId,
+    filter: Filter,
+) -> Result<(), AllocError>
+    ensures { OnOk result
+        (text.new.items ≡ text.old.items ++ object_value config.now object.0 filter) }
+{
+    match config.objects.as_slice().get(usize::from(object.0)) {
+        Some(object) => push_value(text, config, object, filter),
+        None => Ok(()),
+    }
+}
+
 /// Adds a filter of an object, with its value.
+#[tactic(auto, unfolding(crate::specs::Values::filter_text))]
 pub(crate) fn push_filter(
     text: &mut Vec<u8>,
     config: &Config,
@@ -194,10 +219,7 @@ pub(crate) fn push_filter(
         (text.new.items ≡ text.old.items ++ filter_text config.now object.0 filter) }
 {
     text.extend_from_slice(filter_name(filter).as_bytes())?;
-    match config.objects.as_slice().get(usize::from(object.0)) {
-        Some(object) => push_value(text, config, object, filter),
-        None => Ok(()),
-    }
+    push_object_value(text, config, object, filter)
 }
 
 /// Adds what a contact has for a filter.
