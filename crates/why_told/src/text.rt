@@ -12,7 +12,7 @@ ghost use Rattle.why_told.specs.Why.{no_receiver_text, notice_number, out_text, 
 ghost use Rattle.why_told.specs.Why.{stop_text, stopped_row, told_row, told_text, withheld_text};
 
 use crate::attempts::Open;
-use crate::values::{place_of, push_contact_filter, push_decimal, push_filter, push_passed};
+use crate::values::{place_of, push_contact_filter, push_decimal, push_filter_after, push_passed};
 use due_model::config::{Config, ContactId, ObjectId};
 use due_model::limits::LAST_MOMENT;
 use due_model::notice::{Kind, Notice, Suppression};
@@ -160,8 +160,7 @@ fn push_stopped_row(
 ) -> Result<(), AllocError>
     ensures { OnOk result (text.new.items ≡ text.old.items ++ stopped_row config.now stop.now) }
 {
-    text.extend_from_slice(b"    stopped      ")?;
-    push_filter(text, config, stop.object, stop.filter)?;
+    push_filter_after(text, b"    stopped      ", config, stop.object, stop.filter)?;
     text.extend_from_slice(b"\n")
 }
 

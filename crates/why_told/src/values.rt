@@ -73,10 +73,11 @@ pub(crate) fn push_decimal(text: &mut Vec<u8>, number: u64) -> Result<(), AllocE
     text.extend_from_slice(buffer.format(number).as_bytes())
 }
 
-/// Adds a number of minutes in decimal digits.
-fn push_minutes(text: &mut Vec<u8>, minutes: u32) -> Result<(), AllocError>
-    ensures { OnOk result (text.new.items ≡ text.old.items ++ decimal minutes) }
+/// Adds a number of minutes after a name.
+fn push_minutes(text: &mut Vec<u8>, name: &[u8], minutes: u32) -> Result<(), AllocError>
+    ensures { OnOk result (text.new.items ≡ text.old.items ++ (name.now ++ decimal minutes)) }
 {
+    text.extend_from_slice(name)?;
     push_decimal(text, u64::from(minutes))
 }
 
@@ -133,6 +134,20 @@ fn push_letters(text: &mut Vec<u8>, service: bool, letters: OptionLetters) -> Re
     push_other_letters(text, letters)
 }
 
+/// Adds the same after a name.
+fn push_options(
+    text: &mut Vec<u8>,
+    name: &[u8],
+    service: bool,
+    letters: OptionLetters,
+) -> Result<(), AllocError>
+    ensures { OnOk result
+        (text.new.items ≡ text.old.items ++ (name.now ++ letters_text service letters)) }
+{
+    text.extend_from_slice(name)?;
+    push_letters(text, service, letters)
+}
+
 /// The name of a period; empty for a number that no period has.
 fn period_name(config: &Config, period: PeriodId) -> &[u8]
     ensures { result.now ≡ period_name config.now period.0 }
@@ -172,21 +187,15 @@ fn push_value(
 {
     match filter {
         Filter::Options => {
-            text.extend_from_slice(b" notification_options")?;
-            push_letters(text, object.host.is_some(), object.options)
+            let service = object.host.is_some();
+            push_options(text, b" notification_options", service, object.options)
         }
         Filter::Period => {
             text.extend_from_slice(b" notification_period")?;
             push_period(text, config, object.period)
         }
-        Filter::FirstDelay => {
-            text.extend_from_slice(b" first_notification_delay ")?;
-            push_minutes(text, object.delay)
-        }
-        Filter::Interval => {
-            text.extend_from_slice(b" notification_interval ")?;
-            push_minutes(text, object.interval)
-        }
+        Filter::FirstDelay => { push_minutes(text, b" first_notification_delay ", object.delay) }
+        Filter::Interval => { push_minutes(text, b" notification_interval ", object.interval) }
         _ => Ok(()),
     }
 }
@@ -209,7 +218,7 @@ fn push_object_value(
 
 /// Adds a filter of an object, with its value.
 #[tactic(auto, unfolding(crate::specs::Values::filter_text))]
-pub(crate) fn push_filter(
+fn push_filter(
     text: &mut Vec<u8>,
     config: &Config,
     object: ObjectId,
@@ -220,6 +229,21 @@ pub(crate) fn push_filter(
 {
     text.extend_from_slice(filter_name(filter).as_bytes())?;
     push_object_value(text, config, object, filter)
+}
+
+/// The same after a text.
+pub(crate) fn push_filter_after(
+    text: &mut Vec<u8>,
+    front: &[u8],
+    config: &Config,
+    object: ObjectId,
+    filter: Filter,
+) -> Result<(), AllocError>
+    ensures { OnOk result (text.new.items
+        ≡ text.old.items ++ (front.now ++ filter_text config.now object.0 filter)) }
+{
+    text.extend_from_slice(front)?;
+    push_filter(text, config, object, filter)
 }
 
 /// Adds what a contact has for a filter.
@@ -235,8 +259,7 @@ fn push_right(
 {
     match filter {
         Filter::ContactOptions => {
-            text.extend_from_slice(b" notification_options")?;
-            push_letters(text, service, rights.options)
+            push_options(text, b" notification_options", service, rights.options)
         }
         Filter::ContactPeriod => {
             text.extend_from_slice(b" notification_period")?;
@@ -306,11 +329,10 @@ fn push_passed_at(
         (text.new.items ≡ text.old.items ++ passed_at config.now object.0 place) }
 {
     if place == 0 {
-        text.extend_from_slice(b"    passed       ")?;
+        push_filter_after(text, b"    passed       ", config, object, filter_at(place))
     } else {
-        text.extend_from_slice(b", ")?;
+        push_filter_after(text, b", ", config, object, filter_at(place))
     }
-    push_filter(text, config, object, filter_at(place))
 }
 
 /// Adds the first filters of an object.
