@@ -29,7 +29,7 @@ impl<'a> PrettyLines<'a> {
         picks: Picks<'a>,
         coloured: bool,
     ) -> Result<PrettyLines<'a>, AllocError>
-        ensures picks { IfOk result (λ pretty. pretty.picks ≡ picks) }
+        ensures picks { IfOk result (λ pretty. pretty.picks ≡ picks.entry) }
         ensures coloured { IfOk result (λ pretty. pretty.coloured ≡ coloured) }
         ensures widths { IfOk result (λ pretty. pretty.widths ≡ None) }
         ensures runs { IfOk result (λ pretty. pretty.runs ≡ no_runs) }

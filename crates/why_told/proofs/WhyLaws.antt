@@ -1,5 +1,5 @@
 -- From what is told of a report to what is written of an object's attempts.
-use Rattle.std.proofs.Common.{◌≡◌, ℕ, Bool, true, false, cond, List, [], ◌∷◌, ◌++◌, filter, Option, refl, sym, ap, subst, ◌∙◌, append_assoc}
+use Rattle.std.proofs.Common.{◌≡◌, ℕ, Bool, true, false, cond, List, [], ◌∷◌, ◌++◌, filter, Option, None, Some, IfSome, refl, sym, ap, subst, ◌∙◌, append_assoc}
 use Rattle.std.specs.Option.{option_copied}
 use Rattle.due_model.specs.declared.config.Config.{Config}
 use Rattle.due_model.specs.declared.zone.Zone.{Zone}
@@ -26,22 +26,22 @@ form_at c zone =
 
 -- the teller after a line that is asked for
 abbrev taken : Reasons → ReportLine → Reasons
-taken reasons line = record reasons { open = after_line reasons.open line }
+taken reasons line = record reasons { current = after_line reasons.current line }
 
 -- what it writes from here on
 abbrev from_here : Reasons → Config → Zone → List ReportLine → List ℕ
 from_here reasons c zone lines =
-    why_from c zone (option_copied reasons.asked.contact) reasons.open (filter (is_of reasons.asked c) lines)
+    why_from c zone (option_copied reasons.asked.contact) reasons.current (filter (is_of reasons.asked c) lines)
 
 -- one line, and those after it
 one_more : (reasons : Reasons) (c : Config) (zone : Zone) (line : ReportLine) (lines : List ReportLine)
     → told_report (form_at c zone) (taken reasons line) lines ≡ from_here (taken reasons line) c zone lines
     → told_report (form_at c zone) reasons lines ≡ from_here reasons c zone lines
     → (b : Bool)
-    → cond b (line_text c zone (option_copied reasons.asked.contact) reasons.open line) [] ++ told_report (form_at c zone) (cond b (taken reasons line) reasons) lines
-    ≡ why_from c zone (option_copied reasons.asked.contact) reasons.open (cond b (line ∷ filter (is_of reasons.asked c) lines) (filter (is_of reasons.asked c) lines))
+    → cond b (line_text c zone (option_copied reasons.asked.contact) reasons.current line) [] ++ told_report (form_at c zone) (cond b (taken reasons line) reasons) lines
+    ≡ why_from c zone (option_copied reasons.asked.contact) reasons.current (cond b (line ∷ filter (is_of reasons.asked c) lines) (filter (is_of reasons.asked c) lines))
 one_more reasons c zone line lines on same true =
-    ap (λ (text : List ℕ). line_text c zone (option_copied reasons.asked.contact) reasons.open line ++ text) on
+    ap (λ (text : List ℕ). line_text c zone (option_copied reasons.asked.contact) reasons.current line ++ text) on
 one_more reasons c zone line lines on same false = same
 
 told_from : (reasons : Reasons) (c : Config) (zone : Zone) (lines : List ReportLine) → told_report (form_at c zone) reasons lines ≡ from_here reasons c zone lines
@@ -50,7 +50,7 @@ told_from reasons c zone (line ∷ lines) =
     append_assoc (told_line reasons c zone line) (told_all (form_at c zone) (after_told reasons c line) lines) ((form_at c zone).ended (after_all (form_at c zone) (after_told reasons c line) lines))
     ∙ one_more reasons c zone line lines (told_from (taken reasons line) c zone lines) (told_from reasons c zone lines) (is_of reasons.asked c line)
 
-module _ (reasons : Reasons) (asked : Asked) (p : reasons.asked ≡ asked) (q : reasons.open ≡ nothing_open) where
+module _ (reasons : Reasons) (asked : Asked) (p : reasons.asked ≡ asked) (q : reasons.current ≡ nothing_open) where
   report_told : (c : Config) (zone : Zone) (given : List Answer) → told_report (form_at c zone) reasons (report_lines c zone given) ≡ why_report asked c zone given
   report_told c zone given =
       let lines = report_lines c zone given in
@@ -69,3 +69,7 @@ module _ (reasons : Reasons) (asked : Asked) (p : reasons.asked ≡ asked) (q : 
       → tells.TellsFrontFor form_at reasons can_fail config feed zone old new → TellsWhyFront asked can_fail config feed zone old new
   why_front can_fail config feed zone old new h =
       (h.0, h.1, subst (λ text. WritesFront old new text) (report_told config zone h.0) h.2)
+
+pub some_told : {X : Type 0} (known : Option X) (P Q : X → Type 0) → ((x : X) → P x → Q x) → IfSome known P → IfSome known Q
+some_told None P Q f h = tt
+some_told (Some x) P Q f h = f x h

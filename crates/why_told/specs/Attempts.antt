@@ -31,18 +31,19 @@ nothing_open = record { stopped = None; more = 0; met = [] }
 abbrev pub first_stop : Suppression → Open
 first_stop s = record { stopped = Some s; more = 0; met = [] }
 
--- it goes on with the row that is open
-abbrev pub goes_on : Open → Suppression → Bool
-goes_on open s = goes_on_from open.stopped s
-
+-- it goes on with the row of which that is the last
 abbrev pub goes_on_from : Option Suppression → Suppression → Bool
 goes_on_from None s = false
 goes_on_from (Some before) s = same_stop before s
 
+-- it goes on with the row that is open
+abbrev pub goes_on : Open → Suppression → Bool
+goes_on current s = goes_on_from current.stopped s
+
 abbrev pub after_stop : Open → Suppression → Open
-after_stop open s =
-    if goes_on open s
-    then record { stopped = Some s; more = one_more open.more; met = [] } else first_stop s
+after_stop current s =
+    if goes_on current s
+    then record { stopped = Some s; more = one_more current.more; met = [] } else first_stop s
 
 -- ---- an attempt that went out
 
@@ -54,24 +55,24 @@ is_of_event event (Refused refused) = false
 
 -- the attempt of this event is open
 abbrev pub has_event : Open → (event : ℕ) → Bool
-has_event open event = list_any (is_of_event event) open.met
+has_event current event = list_any (is_of_event event) current.met
 
 -- after a line of an attempt that went out, of this event
 abbrev pub after_out : Open → (event : ℕ) → ReportLine → Open
-after_out open event line = record {
+after_out current event line = record {
   stopped = None;
   more = 0;
-  met = (if has_event open event then open.met else []) ++ line ∷ [];
+  met = (if has_event current event then current.met else []) ++ line ∷ [];
 }
 
 -- ---- after a line
 
 abbrev pub after_withheld : Open → Suppression → Option ContactId → ReportLine → Open
-after_withheld open s None line = after_stop open s
-after_withheld open s (Some contact) line = after_out open s.event line
+after_withheld current s None line = after_stop current s
+after_withheld current s (Some contact) line = after_out current s.event line
 
 abbrev pub after_line : Open → ReportLine → Open
-after_line open (Decided (Sent n)) = after_out open n.event (Decided (Sent n))
-after_line open (Decided (Withheld s)) =
-    after_withheld open s s.contact (Decided (Withheld s))
-after_line open (Refused refused) = open
+after_line current (Decided (Sent n)) = after_out current n.event (Decided (Sent n))
+after_line current (Decided (Withheld s)) =
+    after_withheld current s s.contact (Decided (Withheld s))
+after_line current (Refused refused) = current

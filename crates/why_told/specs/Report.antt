@@ -1,11 +1,7 @@
 -- What `why` writes of a report, and how it ends.
-use Rattle.std.specs.Prelude.{◌≡◌, ℕ, ◌×◌, Bool, true, false, List, [], ◌∷◌, ◌++◌, filter, is_some, Option, None, Some, if◌then◌else◌, Result, Ok, Err}
+use Rattle.std.specs.Prelude.{◌≡◌, ℕ, Bool, List, [], ◌∷◌, ◌++◌, filter, Option}
 use Rattle.std.specs.Option.{option_copied}
-use Rattle.command_output.specs.Outcome.{IsWriteFault, ending_status, fault_status as command_status, fault_text as command_text}
-use Rattle.command_output.specs.declared.outcome.CommandFault.{CommandFault}
 use Rattle.command_output.specs.declared.outcome.Ending.{Ending}
-use Rattle.command_input.specs.Objects.{IsTextOf}
-use Rattle.due_model.specs.Objects.{object_named}
 use Rattle.due_model.specs.declared.config.Config.{Config}
 use Rattle.due_model.specs.declared.zone.Zone.{Zone}
 use Rattle.event_feed.specs.Feed.{Answer}
@@ -22,10 +18,10 @@ use Rattle.written.specs.Written.{Writes, WritesFront}
 
 -- Of the lines of an object's report, after what is open: what each adds, and at the end how what is open then ends.
 abbrev pub why_from : Config → Zone → (contact : Option (List ℕ)) → Open → List ReportLine → List ℕ
-why_from c zone contact open [] = close_text c zone contact open
-why_from c zone contact open (line ∷ lines) =
-    line_text c zone contact open line
-    ++ why_from c zone contact (after_line open line) lines
+why_from c zone contact current [] = close_text c zone contact current
+why_from c zone contact current (line ∷ lines) =
+    line_text c zone contact current line
+    ++ why_from c zone contact (after_line current line) lines
 
 -- of a report: of its lines that are of what is asked
 abbrev pub why_report : Asked → Config → Zone → List Answer → List ℕ

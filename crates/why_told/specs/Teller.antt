@@ -31,13 +31,13 @@ is_of asked c line = is_between asked.from asked.to line && is_picked (picks_of 
 abbrev pub told_line : Reasons → Config → Zone → ReportLine → List ℕ
 told_line reasons c zone line =
     if is_of reasons.asked c line
-    then line_text c zone (option_copied reasons.asked.contact) reasons.open line else []
+    then line_text c zone (option_copied reasons.asked.contact) reasons.current line else []
 
 abbrev pub after_told : Reasons → Config → ReportLine → Reasons
 after_told reasons c line =
     if is_of reasons.asked c line
-    then record reasons { open = after_line reasons.open line } else reasons
+    then record reasons { current = after_line reasons.current line } else reasons
 
 abbrev pub ended_text : Reasons → Config → Zone → List ℕ
 ended_text reasons c zone =
-    close_text c zone (option_copied reasons.asked.contact) reasons.open
+    close_text c zone (option_copied reasons.asked.contact) reasons.current

@@ -61,7 +61,7 @@ other_letters letters =
     ++ letter_text letters.downtime (codes " s")
 
 -- the letters of a set that such an object can have
-abbrev pub letters_text : (service : Bool) → OptionLetters → List ℕ
+unfoldable pub letters_text : (service : Bool) → OptionLetters → List ℕ
 letters_text service letters =
     (if service then service_letters letters else host_letters letters) ++ other_letters letters
 
@@ -84,11 +84,14 @@ value_of c object FirstDelay = codes " first_notification_delay " ++ decimal obj
 value_of c object Interval = codes " notification_interval " ++ decimal object.interval
 value_of c object filter = []
 
+-- the same of the object of that number
+abbrev pub object_value : Config → (o : ℕ) → Filter → List ℕ
+object_value c o filter =
+    option_map_or (λ object. value_of c object filter) (slice_get c.objects o) []
+
 -- a filter of the object of that number, with its value
-abbrev pub filter_text : Config → (o : ℕ) → Filter → List ℕ
-filter_text c o filter =
-    filter_name filter
-    ++ option_map_or (λ object. value_of c object filter) (slice_get c.objects o) []
+unfoldable pub filter_text : Config → (o : ℕ) → Filter → List ℕ
+filter_text c o filter = filter_name filter ++ object_value c o filter
 
 -- what a contact has for a filter, for such an object
 abbrev pub right_of : Config → (service : Bool) → Rights → Filter → List ℕ

@@ -101,7 +101,7 @@ missing_at c asked o lines k =
     if is_missing c asked o lines k then missing_row c o k lines else []
 
 -- who is no receiver of the attempt of these lines, by their numbers
-abbrev pub missing_text : Config → Option (List ℕ) → (o : ℕ) → List ReportLine → List ℕ
+unfoldable pub missing_text : Config → Option (List ℕ) → (o : ℕ) → List ReportLine → List ℕ
 missing_text c asked o lines =
     flat_map (missing_at c asked o lines) (range_with_len 0 65536)
 
@@ -113,9 +113,9 @@ missing_of c asked lines (Some line) =
 
 -- how what is open ends
 unfoldable pub close_text : Config → Zone → Option (List ℕ) → Open → List ℕ
-close_text c zone asked open =
-    rest_of zone open.more open.stopped
-    ++ missing_of c asked open.met (slice_get open.met 0)
+close_text c zone asked current =
+    rest_of zone current.more current.stopped
+    ++ missing_of c asked current.met (slice_get current.met 0)
 
 -- ---- what a line adds
 
@@ -126,8 +126,8 @@ new_stop_text c zone s =
     ++ stopped_row c s
 
 abbrev pub stop_text : Config → Zone → Option (List ℕ) → Open → Suppression → List ℕ
-stop_text c zone asked open s =
-    if goes_on open s then [] else close_text c zone asked open ++ new_stop_text c zone s
+stop_text c zone asked current s =
+    if goes_on current s then [] else close_text c zone asked current ++ new_stop_text c zone s
 
 -- how an attempt that goes out begins, where it isn't open: all filters of the object passed
 unfoldable pub out_text : Config → Zone → (o moment : ℕ) → Kind → State → (number : ℕ) → List ℕ
@@ -136,21 +136,21 @@ out_text c zone o moment kind state number =
 
 abbrev pub begin_text : Config → Zone → Option (List ℕ) → Open → (event o moment : ℕ) → Kind
     → State → (number : ℕ) → List ℕ
-begin_text c zone asked open event o moment kind state number =
-    if has_event open event then []
-    else close_text c zone asked open ++ out_text c zone o moment kind state number
+begin_text c zone asked current event o moment kind state number =
+    if has_event current event then []
+    else close_text c zone asked current ++ out_text c zone o moment kind state number
 
 abbrev pub withheld_text : Config → Zone → Option (List ℕ) → Open → Suppression
     → Option ContactId → List ℕ
-withheld_text c zone asked open s None = stop_text c zone asked open s
-withheld_text c zone asked open s (Some contact) =
-    begin_text c zone asked open s.event s.object.0 s.moment s.kind s.state s.number
+withheld_text c zone asked current s None = stop_text c zone asked current s
+withheld_text c zone asked current s (Some contact) =
+    begin_text c zone asked current s.event s.object.0 s.moment s.kind s.state s.number
     ++ refused_text c asked s contact.0
 
 abbrev pub line_text : Config → Zone → Option (List ℕ) → Open → ReportLine → List ℕ
-line_text c zone asked open (Decided (Sent n)) =
-    begin_text c zone asked open n.event n.object.0 n.moment n.kind n.state n.number
+line_text c zone asked current (Decided (Sent n)) =
+    begin_text c zone asked current n.event n.object.0 n.moment n.kind n.state n.number
     ++ told_text c asked n
-line_text c zone asked open (Decided (Withheld s)) =
-    withheld_text c zone asked open s s.contact
-line_text c zone asked open (Refused refused) = []
+line_text c zone asked current (Decided (Withheld s)) =
+    withheld_text c zone asked current s s.contact
+line_text c zone asked current (Refused refused) = []

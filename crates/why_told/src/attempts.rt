@@ -55,7 +55,8 @@ impl Met {
     fn push(&mut self, line: ReportLine) -> Result<(), AllocError>
         ensures { OnOk result (self.new ≡ self.old ++ line ∷ []) }
     {
-        self.lines.push(line)
+        self.lines.push(line)?;
+        Ok(())
     }
 }
 

@@ -31,19 +31,19 @@ pub struct Asked<'a> {
 pub struct Reasons<'a> {
     alloc: Global,
     asked: Asked<'a>,
-    open: Open,
+    current: Open,
 }
 
 impl<'a> Reasons<'a> {
     /// One that was told no line yet.
     pub(crate) fn new(alloc: Global, asked: Asked<'a>) -> Reasons<'a>
-        ensures asked { result.asked ≡ asked }
-        ensures open { result.open ≡ nothing_open }
+        ensures asked { result.asked ≡ asked.entry }
+        ensures current { result.current ≡ nothing_open }
     {
         Reasons {
             alloc,
             asked,
-            open: Open::new(alloc),
+            current: Open::new(alloc),
         }
     }
 }
@@ -100,8 +100,8 @@ impl Teller for Reasons<'_> {
         if !is_of(self.alloc, self.asked, config, line)? {
             return Ok(());
         }
-        push_line(text, config, clock, self.asked.contact, &self.open, line)?;
-        self.open.go_on(line)
+        push_line(text, config, clock, self.asked.contact, &self.current, line)?;
+        self.current.go_on(line)
     }
 
     fn end(
@@ -110,6 +110,6 @@ impl Teller for Reasons<'_> {
         clock: &ZoneClock<'_>,
         text: &mut Vec<u8>,
     ) -> Result<(), AllocError> {
-        push_close(text, config, clock, self.asked.contact, &self.open)
+        push_close(text, config, clock, self.asked.contact, &self.current)
     }
 }

@@ -12,7 +12,7 @@ ghost use Rattle.why_told.specs.Why.{no_receiver_text, notice_number, out_text, 
 ghost use Rattle.why_told.specs.Why.{stop_text, stopped_row, told_row, told_text, withheld_text};
 
 use crate::attempts::Open;
-use crate::values::{place_of, push_contact_filter, push_decimal, push_filter, push_passed};
+use crate::values::{place_of, push_contact_filter, push_decimal, push_filter_after, push_passed};
 use due_model::config::{Config, ContactId, ObjectId};
 use due_model::limits::LAST_MOMENT;
 use due_model::notice::{Kind, Notice, Suppression};
@@ -55,7 +55,6 @@ fn push_number(text: &mut Vec<u8>, number: u64) -> Result<(), AllocError>
 }
 
 /// Adds when an attempt is, and of what.
-#[tactic(auto, unfolding(crate::specs::Why::head_text))]
 fn push_head(
     text: &mut Vec<u8>,
     clock: &ZoneClock<'_>,
@@ -73,7 +72,8 @@ fn push_head(
     text.extend_from_slice(b" ")?;
     text.extend_from_slice(state_name(state).as_bytes())?;
     push_number(text, number)?;
-    text.extend_from_slice(b"\n")
+    text.extend_from_slice(b"\n")?;
+    Ok(())
 }
 
 /// Whether something is written of a contact.
@@ -87,7 +87,6 @@ fn is_asked(config: &Config, asked: Option<&str>, contact: ContactId) -> bool
 }
 
 /// Adds whom a notice goes to.
-#[tactic(auto, unfolding(crate::specs::Why::told_row))]
 fn push_told_row(text: &mut Vec<u8>, config: &Config, notice: &Notice) -> Result<(), AllocError>
     ensures { OnOk result (text.new.items ≡ text.old.items ++ told_row config.now notice.now) }
 {
@@ -95,7 +94,8 @@ fn push_told_row(text: &mut Vec<u8>, config: &Config, notice: &Notice) -> Result
     text.extend_from_slice(contact_name(config, notice.contact))?;
     text.extend_from_slice(b"  ")?;
     text.extend_from_slice(lane_name(config, notice.lane))?;
-    text.extend_from_slice(b"\n")
+    text.extend_from_slice(b"\n")?;
+    Ok(())
 }
 
 /// The same, where it is asked for.
@@ -116,7 +116,6 @@ fn push_told(
 }
 
 /// Adds by which filter a contact is refused.
-#[tactic(auto, unfolding(crate::specs::Why::refused_row))]
 fn push_refused_row(
     text: &mut Vec<u8>,
     config: &Config,
@@ -130,7 +129,8 @@ fn push_refused_row(
     text.extend_from_slice(contact_name(config, contact))?;
     text.extend_from_slice(b"  ")?;
     push_contact_filter(text, config, withheld.object, contact, withheld.filter)?;
-    text.extend_from_slice(b"\n")
+    text.extend_from_slice(b"\n")?;
+    Ok(())
 }
 
 /// The same, where it is asked for.
@@ -160,13 +160,11 @@ fn push_stopped_row(
 ) -> Result<(), AllocError>
     ensures { OnOk result (text.new.items ≡ text.old.items ++ stopped_row config.now stop.now) }
 {
-    text.extend_from_slice(b"    stopped      ")?;
-    push_filter(text, config, stop.object, stop.filter)?;
+    push_filter_after(text, b"    stopped      ", config, stop.object, stop.filter)?;
     text.extend_from_slice(b"\n")
 }
 
 /// Adds how a row of what a filter stopped went on.
-#[tactic(auto, unfolding(crate::specs::Why::more_row))]
 fn push_more(
     text: &mut Vec<u8>,
     clock: &ZoneClock<'_>,
@@ -179,7 +177,8 @@ fn push_more(
     push_decimal(text, more)?;
     text.extend_from_slice(b" times, up to ")?;
     push_local(text, clock, moment)?;
-    text.extend_from_slice(b"\n")
+    text.extend_from_slice(b"\n")?;
+    Ok(())
 }
 
 /// The same, if it did.
@@ -228,7 +227,6 @@ fn push_no_receiver(
 }
 
 /// Adds the row of one.
-#[tactic(auto, unfolding(crate::specs::Why::missing_row))]
 fn push_missing_row(
     text: &mut Vec<u8>,
     config: &Config,
@@ -243,7 +241,8 @@ fn push_missing_row(
     text.extend_from_slice(contact_name(config, contact))?;
     text.extend_from_slice(b"  ")?;
     push_no_receiver(text, config, object, contact, lines)?;
-    text.extend_from_slice(b"not told\n")
+    text.extend_from_slice(b"not told\n")?;
+    Ok(())
 }
 
 /// Whether a contact is named and asked for, and the lines of the attempt don't tell of it.
@@ -300,6 +299,21 @@ fn push_first_missing(
     Ok(())
 }
 
+/// Adds who is missing.
+#[tactic(auto, unfolding(crate::specs::Why::missing_text))]
+fn push_all_missing(
+    text: &mut Vec<u8>,
+    config: &Config,
+    asked: Option<&str>,
+    object: ObjectId,
+    lines: &[ReportLine],
+) -> Result<(), AllocError>
+    ensures { OnOk result (text.new.items ≡ text.old.items
+        ++ missing_text config.now (option_copied asked.entry) object.0 lines.now) }
+{
+    push_first_missing(text, config, asked, object, lines, CONTACTS)
+}
+
 /// The object of a line.
 fn line_object(line: &ReportLine) -> Option<ObjectId>
     ensures { result ≡ line_object line.now }
@@ -326,7 +340,7 @@ fn push_missing(
         return Ok(());
     };
     match line_object(first) {
-        Some(object) => push_first_missing(text, config, asked, object, lines, CONTACTS),
+        Some(object) => push_all_missing(text, config, asked, object, lines),
         None => Ok(()),
     }
 }
@@ -338,13 +352,13 @@ pub(crate) fn push_close(
     config: &Config,
     clock: &ZoneClock<'_>,
     asked: Option<&str>,
-    open: &Open,
+    current: &Open,
 ) -> Result<(), AllocError>
     ensures { OnOk result (text.new.items ≡ text.old.items
-        ++ close_text config.now clock.now (option_copied asked.entry) open.now) }
+        ++ close_text config.now clock.now (option_copied asked.entry) current.now) }
 {
-    push_rest(text, clock, open.more, open.stopped)?;
-    let lines = open.met.as_slice();
+    push_rest(text, clock, current.more, current.stopped)?;
+    let lines = current.met.as_slice();
     push_missing(text, config, asked, lines, lines.get(0))
 }
 
@@ -370,16 +384,16 @@ fn push_stop(
     config: &Config,
     clock: &ZoneClock<'_>,
     asked: Option<&str>,
-    open: &Open,
+    current: &Open,
     stop: &Suppression,
 ) -> Result<(), AllocError>
     ensures { OnOk result (text.new.items ≡ text.old.items
-        ++ stop_text config.now clock.now (option_copied asked.entry) open.now stop.now) }
+        ++ stop_text config.now clock.now (option_copied asked.entry) current.now stop.now) }
 {
-    if open.goes_on(stop) {
+    if current.goes_on(stop) {
         return Ok(());
     }
-    push_close(text, config, clock, asked, open)?;
+    push_close(text, config, clock, asked, current)?;
     push_new_stop(text, config, clock, stop)
 }
 
@@ -412,17 +426,17 @@ fn push_begin(
     config: &Config,
     clock: &ZoneClock<'_>,
     asked: Option<&str>,
-    open: &Open,
+    current: &Open,
     attempt: Attempt,
 ) -> Result<(), AllocError>
     ensures { OnOk result (text.new.items ≡ text.old.items
-        ++ begin_text config.now clock.now (option_copied asked.entry) open.now attempt.event
+        ++ begin_text config.now clock.now (option_copied asked.entry) current.now attempt.event
         attempt.object.0 attempt.moment attempt.kind attempt.state attempt.number) }
 {
-    if open.has_event(attempt.event) {
+    if current.has_event(attempt.event) {
         return Ok(());
     }
-    push_close(text, config, clock, asked, open)?;
+    push_close(text, config, clock, asked, current)?;
     push_out(text, config, clock, attempt)
 }
 
@@ -432,15 +446,15 @@ fn push_withheld(
     config: &Config,
     clock: &ZoneClock<'_>,
     asked: Option<&str>,
-    open: &Open,
+    current: &Open,
     withheld: &Suppression,
     contact: Option<ContactId>,
 ) -> Result<(), AllocError>
     ensures { OnOk result (text.new.items ≡ text.old.items ++ withheld_text config.now clock.now
-        (option_copied asked.entry) open.now withheld.now contact) }
+        (option_copied asked.entry) current.now withheld.now contact) }
 {
     let Some(contact) = contact else {
-        return push_stop(text, config, clock, asked, open, withheld);
+        return push_stop(text, config, clock, asked, current, withheld);
     };
     let attempt = Attempt {
         event: withheld.event,
@@ -450,7 +464,7 @@ fn push_withheld(
         state: withheld.state,
         number: withheld.number,
     };
-    push_begin(text, config, clock, asked, open, attempt)?;
+    push_begin(text, config, clock, asked, current, attempt)?;
     push_refused(text, config, asked, withheld, contact)
 }
 
@@ -460,11 +474,11 @@ fn push_sent(
     config: &Config,
     clock: &ZoneClock<'_>,
     asked: Option<&str>,
-    open: &Open,
+    current: &Open,
     notice: &Notice,
 ) -> Result<(), AllocError>
     ensures { OnOk result (text.new.items ≡ text.old.items ++ line_text config.now clock.now
-        (option_copied asked.entry) open.now (Decided (Sent notice.now))) }
+        (option_copied asked.entry) current.now (Decided (Sent notice.now))) }
 {
     let attempt = Attempt {
         event: notice.event,
@@ -474,7 +488,7 @@ fn push_sent(
         state: notice.state,
         number: notice.number,
     };
-    push_begin(text, config, clock, asked, open, attempt)?;
+    push_begin(text, config, clock, asked, current, attempt)?;
     push_told(text, config, asked, notice)
 }
 
@@ -484,22 +498,22 @@ pub(crate) fn push_line(
     config: &Config,
     clock: &ZoneClock<'_>,
     asked: Option<&str>,
-    open: &Open,
+    current: &Open,
     line: &ReportLine,
 ) -> Result<(), AllocError>
     ensures { OnOk result (text.new.items ≡ text.old.items
-        ++ line_text config.now clock.now (option_copied asked.entry) open.now line.now) }
+        ++ line_text config.now clock.now (option_copied asked.entry) current.now line.now) }
 {
     match line {
         ReportLine::Decided(Entry::Sent(notice)) => {
-            push_sent(text, config, clock, asked, open, notice)
+            push_sent(text, config, clock, asked, current, notice)
         }
         ReportLine::Decided(Entry::Withheld(withheld)) => push_withheld(
             text,
             config,
             clock,
             asked,
-            open,
+            current,
             withheld,
             withheld.contact,
         ),

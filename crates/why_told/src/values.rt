@@ -5,7 +5,7 @@ ghost use Rattle.std.specs.List.{range_with_len};
 ghost use Rattle.due_model.specs.Due.{rights_for};
 ghost use Rattle.why_told.specs.Values.{contact_filter_text, contact_value, filter_at, filter_text};
 ghost use Rattle.why_told.specs.Values.{host_letters, letter_text, letters_text, other_letters, passed_at, passed_text, period_name, period_text, service_letters};
-ghost use Rattle.why_told.specs.Values.{place_of, right_of, value_of};
+ghost use Rattle.why_told.specs.Values.{object_value, place_of, right_of, value_of};
 
 use due_model::config::{Config, Contact, ContactId, Object, ObjectId, PeriodId, Rights};
 use due_model::notice::Filter;
@@ -73,6 +73,14 @@ pub(crate) fn push_decimal(text: &mut Vec<u8>, number: u64) -> Result<(), AllocE
     text.extend_from_slice(buffer.format(number).as_bytes())
 }
 
+/// Adds a number of minutes after a name.
+fn push_minutes(text: &mut Vec<u8>, name: &[u8], minutes: u32) -> Result<(), AllocError>
+    ensures { OnOk result (text.new.items ≡ text.old.items ++ (name.now ++ decimal minutes)) }
+{
+    text.extend_from_slice(name)?;
+    push_decimal(text, u64::from(minutes))
+}
+
 /// Adds a letter, where it is in the set.
 fn push_letter(text: &mut Vec<u8>, given: bool, letter: &[u8]) -> Result<(), AllocError>
     ensures { OnOk result (text.new.items ≡ text.old.items ++ letter_text given letter.now) }
@@ -114,6 +122,7 @@ fn push_other_letters(text: &mut Vec<u8>, letters: OptionLetters) -> Result<(), 
 }
 
 /// Adds the letters of a set that such an object can have.
+#[tactic(auto, unfolding(crate::specs::Values::letters_text))]
 fn push_letters(text: &mut Vec<u8>, service: bool, letters: OptionLetters) -> Result<(), AllocError>
     ensures { OnOk result (text.new.items ≡ text.old.items ++ letters_text service letters) }
 {
@@ -123,6 +132,20 @@ fn push_letters(text: &mut Vec<u8>, service: bool, letters: OptionLetters) -> Re
         push_host_letters(text, letters)?;
     }
     push_other_letters(text, letters)
+}
+
+/// Adds the same after a name.
+fn push_options(
+    text: &mut Vec<u8>,
+    name: &[u8],
+    service: bool,
+    letters: OptionLetters,
+) -> Result<(), AllocError>
+    ensures { OnOk result
+        (text.new.items ≡ text.old.items ++ (name.now ++ letters_text service letters)) }
+{
+    text.extend_from_slice(name)?;
+    push_letters(text, service, letters)
 }
 
 /// The name of a period; empty for a number that no period has.
@@ -164,27 +187,38 @@ fn push_value(
 {
     match filter {
         Filter::Options => {
-            text.extend_from_slice(b" notification_options")?;
-            push_letters(text, object.host.is_some(), object.options)
+            let service = object.host.is_some();
+            push_options(text, b" notification_options", service, object.options)
         }
         Filter::Period => {
             text.extend_from_slice(b" notification_period")?;
             push_period(text, config, object.period)
         }
-        Filter::FirstDelay => {
-            text.extend_from_slice(b" first_notification_delay ")?;
-            push_decimal(text, u64::from(object.delay))
-        }
-        Filter::Interval => {
-            text.extend_from_slice(b" notification_interval ")?;
-            push_decimal(text, u64::from(object.interval))
-        }
+        Filter::FirstDelay => { push_minutes(text, b" first_notification_delay ", object.delay) }
+        Filter::Interval => { push_minutes(text, b" notification_interval ", object.interval) }
         _ => Ok(()),
     }
 }
 
+/// Adds what the object of a number has for a filter.
+fn push_object_value(
+    text: &mut Vec<u8>,
+    config: &Config,
+    object: ObjectId,
+    filter: Filter,
+) -> Result<(), AllocError>
+    ensures { OnOk result
+        (text.new.items ≡ text.old.items ++ object_value config.now object.0 filter) }
+{
+    match config.objects.as_slice().get(usize::from(object.0)) {
+        Some(object) => push_value(text, config, object, filter),
+        None => Ok(()),
+    }
+}
+
 /// Adds a filter of an object, with its value.
-pub(crate) fn push_filter(
+#[tactic(auto, unfolding(crate::specs::Values::filter_text))]
+fn push_filter(
     text: &mut Vec<u8>,
     config: &Config,
     object: ObjectId,
@@ -194,10 +228,22 @@ pub(crate) fn push_filter(
         (text.new.items ≡ text.old.items ++ filter_text config.now object.0 filter) }
 {
     text.extend_from_slice(filter_name(filter).as_bytes())?;
-    match config.objects.as_slice().get(usize::from(object.0)) {
-        Some(object) => push_value(text, config, object, filter),
-        None => Ok(()),
-    }
+    push_object_value(text, config, object, filter)
+}
+
+/// The same after a text.
+pub(crate) fn push_filter_after(
+    text: &mut Vec<u8>,
+    front: &[u8],
+    config: &Config,
+    object: ObjectId,
+    filter: Filter,
+) -> Result<(), AllocError>
+    ensures { OnOk result (text.new.items
+        ≡ text.old.items ++ (front.now ++ filter_text config.now object.0 filter)) }
+{
+    text.extend_from_slice(front)?;
+    push_filter(text, config, object, filter)
 }
 
 /// Adds what a contact has for a filter.
@@ -213,8 +259,7 @@ fn push_right(
 {
     match filter {
         Filter::ContactOptions => {
-            text.extend_from_slice(b" notification_options")?;
-            push_letters(text, service, rights.options)
+            push_options(text, b" notification_options", service, rights.options)
         }
         Filter::ContactPeriod => {
             text.extend_from_slice(b" notification_period")?;
@@ -284,11 +329,10 @@ fn push_passed_at(
         (text.new.items ≡ text.old.items ++ passed_at config.now object.0 place) }
 {
     if place == 0 {
-        text.extend_from_slice(b"    passed       ")?;
+        push_filter_after(text, b"    passed       ", config, object, filter_at(place))
     } else {
-        text.extend_from_slice(b", ")?;
+        push_filter_after(text, b", ", config, object, filter_at(place))
     }
-    push_filter(text, config, object, filter_at(place))
 }
 
 /// Adds the first filters of an object.

@@ -2,5 +2,5 @@ use Rattle.std.proofs.Common.{◌≡◌, ◌++◌}
 use Rattle.std.specs.Prelude.{replicate}
 use Rattle.pretty_lines.proofs.columns.push_blanks.Given as goal
 
-abbrev pub invariant-loop-_done : goal.invariant-loop-_done
-invariant-loop-_done l = l.text.items ≡ l.fn.text.items ++ replicate l._done 32
+abbrev pub invariant-loop-done : goal.invariant-loop-done
+invariant-loop-done l = l.text.items ≡ l.fn.text.items ++ replicate l._done 32

@@ -1,8 +1,11 @@
-use Rattle.std.proofs.Common.{◌∙◌, sym, ap₂, ℕ, max}
+use Rattle.std.proofs.Common.{◌∙◌, List, sym, ap, ap₂, ℕ, max}
 use Rattle.notice_text.specs.Texts.{contact_text}
+use Rattle.pretty_lines.specs.Columns.{characters}
 use Rattle.pretty_lines.proofs.ColumnLaws.{widest_more}
 use Rattle.pretty_lines.proofs.columns.widest_contact.Goals as goal
 
 pub loop-number-preserved : goal.loop-number-preserved
 loop-number-preserved c =
-    c.max.ensures ∙ ap₂ (λ (m n : ℕ). max m n) c.loop-number.invariant c.characters.ensures ∙ sym (widest_more (contact_text c.args.config.now) c.loop-number.number)
+    c.max-widest.ensures
+    ∙ ap₂ (λ (m n : ℕ). max m n) c.loop-number.invariant (c.characters.ensures ∙ ap (λ (text : List ℕ). characters text) c.contact_name.ensures)
+    ∙ sym (widest_more (contact_text c.args.config.now) c.loop-number.number)

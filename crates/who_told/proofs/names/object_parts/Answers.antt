@@ -1,6 +1,6 @@
 use Rattle.std.proofs.Common.{arith}
 use Rattle.who_told.proofs.NameLaws.{first_parts, lacks_all}
-use Rattle.who_told.proofs.object_parts.Goals as goal
+use Rattle.who_told.proofs.names.object_parts.Goals as goal
 
 pub returns-in-Some-clause-unbroken : goal.returns-in-Some-clause-unbroken
 returns-in-Some-clause-unbroken c = (first_parts 47 c.args.name.now c.in-Some.host.now c.in-Some.service.now c.in-Some.ensures.cases (omega arith)).1
