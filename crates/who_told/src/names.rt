@@ -1,6 +1,6 @@
 //! The names of a command line, and which of them aren't known.
 
-ghost use Rattle.std.specs.Prelude.{◌≡◌, ◌∷◌, ◌++◌, find, is_some, not, option_map, IfNone, IfSome};
+ghost use Rattle.std.specs.Prelude.{◌≡◌, ◌∷◌, ◌++◌, find, is_some, not, None, IfNone, IfSome};
 ghost use Rattle.std.specs.Option.{option_copied};
 ghost use Rattle.due_model.specs.Objects.{object_named};
 ghost use Rattle.who_told.specs.Names.{Lacks};
@@ -46,16 +46,23 @@ fn is_known(config: &Config, host: &str, service: Option<&str>) -> bool
     config.objects.find(host.as_bytes(), service).is_some()
 }
 
+/// The first of these hosts that isn't known.
+fn first_unknown<'a>(config: &Config, down: &[&'a str]) -> Option<&'a str>
+    ensures { result ≡ find (λ host. not (is_known config.now host.now None)) down.entry.now }
+{
+    down.iter()
+        .copied()
+        .find(|host| !is_known(config, host, None))
+}
+
 /// The first host of those that are down that isn't known.
 fn unknown_down<'a>(config: &Config, supposed: &Supposed<'a>) -> Option<Unknown<'a>>
     ensures { result ≡ unknown_down config.now supposed.now }
 {
-    supposed
-        .down
-        .iter()
-        .copied()
-        .find(|host| !is_known(config, host, None))
-        .map(|host| Unknown::Host(host))
+    match first_unknown(config, supposed.down) {
+        Some(host) => Some(Unknown::Host(host)),
+        None => None,
+    }
 }
 
 /// The service that isn't known, of a host that is.
