@@ -1,7 +1,8 @@
 //! The command `why`: its files and its span, and how it ends.
 
-ghost use Rattle.std.specs.Prelude.{◌≡◌, ◌≤◌, IfSome, None};
+ghost use Rattle.std.specs.Prelude.{◌≡◌, ◌≤◌, IfOk, IfSome, None};
 ghost use Rattle.std.specs.Process.{exit_status};
+ghost use Rattle.due_model.specs.Accepted.{IsAccepted};
 ghost use Rattle.due_model.specs.Limits.{last_moment};
 ghost use Rattle.notify_run.specs.Times.{IsBadSpan, IsNoMoment};
 
@@ -37,7 +38,9 @@ fn moment_or(zone: &Zone, text: Option<&str>, otherwise: u64) -> Option<u64>
 }
 
 /// The configuration of the object text in a file.
-fn config_in(rt: &HostRuntime, objects: &str) -> Result<Config, CommandFault> {
+fn config_in(rt: &HostRuntime, objects: &str) -> Result<Config, CommandFault>
+    ensures { IfOk result IsAccepted }
+{
     let Ok(file) = File::open(rt, objects) else {
         return Err(CommandFault::Unreadable);
     };
@@ -60,7 +63,9 @@ fn do_why(
     zone: &Zone,
     config: &Config,
     asked: Asked<'_>,
-) -> Result<Ending, CommandFault> {
+) -> Result<Ending, CommandFault>
+    requires { IsAccepted config.now }
+{
     let mut line = ProgressLine::new(rt, rt.stderr().is_terminal());
     let feed = AnyReader::new(rt.stdin());
     let mut writer = AnyWriter::new(rt.stdout());
