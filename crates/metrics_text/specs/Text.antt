@@ -14,10 +14,13 @@ escaped byte =
     else if byte == 10 then 92 ∷ 110 ∷ []
     else byte ∷ []
 
+-- what is said of a metric
+unfoldable pub remark : (front name said : List ℕ) → List ℕ
+remark front name said = front ++ name ++ codes " " ++ said ++ codes "\n"
+
 -- what a metric is, and of which kind
 unfoldable pub head : (name help kind : List ℕ) → List ℕ
-head name help kind =
-    codes "# HELP " ++ name ++ codes " " ++ help ++ codes "\n# TYPE " ++ name ++ codes " " ++ kind ++ codes "\n"
+head name help kind = remark (codes "# HELP ") name help ++ remark (codes "# TYPE ") name kind
 
 -- its value
 unfoldable pub sample : (name : List ℕ) → ℕ → List ℕ
@@ -59,12 +62,24 @@ run_text m =
     ++ one_text (codes "notify_run_notices_due_total") (codes "Notices that came to the commands.") (codes "counter") m.due
 
 -- of its commands
-unfoldable pub each_text : List CommandMetrics → List ℕ
-each_text commands =
+unfoldable pub taken_text : List CommandMetrics → List ℕ
+taken_text commands =
     commands_text (codes "notify_run_taken_total") (codes "Letters that the command has taken.") (codes "counter") Taken commands
-    ++ commands_text (codes "notify_run_undelivered_total") (codes "Notices that were given up.") (codes "counter") Undelivered commands
-    ++ commands_text (codes "notify_run_waiting") (codes "Letters that the command has in hand.") (codes "gauge") Waiting commands
-    ++ commands_text (codes "notify_run_channel_failures_total") (codes "Tries of a letter that failed.") (codes "counter") Failures commands
+
+unfoldable pub undelivered_text : List CommandMetrics → List ℕ
+undelivered_text commands =
+    commands_text (codes "notify_run_undelivered_total") (codes "Notices that were given up.") (codes "counter") Undelivered commands
+
+unfoldable pub waiting_text : List CommandMetrics → List ℕ
+waiting_text commands =
+    commands_text (codes "notify_run_waiting") (codes "Letters that the command has in hand.") (codes "gauge") Waiting commands
+
+unfoldable pub failures_text : List CommandMetrics → List ℕ
+failures_text commands =
+    commands_text (codes "notify_run_channel_failures_total") (codes "Tries of a letter that failed.") (codes "counter") Failures commands
+
+unfoldable pub each_text : List CommandMetrics → List ℕ
+each_text commands = taken_text commands ++ undelivered_text commands ++ waiting_text commands ++ failures_text commands
 
 -- of its feed
 unfoldable pub ages_text : Metrics → List ℕ

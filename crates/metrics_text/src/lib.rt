@@ -3,7 +3,8 @@
 
 ghost use Rattle.std.specs.Prelude.{◌≡◌, ◌++◌, decimal, flat_map, IfOk, OnOk};
 ghost use Rattle.metrics_text.specs.Text.{age_text, ages_text, command_sample, commands_text, each_text};
-ghost use Rattle.metrics_text.specs.Text.{escaped, figure_of, head, metrics_text, one_text, run_text};
+ghost use Rattle.metrics_text.specs.Text.{escaped, failures_text, figure_of, head, metrics_text, one_text};
+ghost use Rattle.metrics_text.specs.Text.{remark, run_text, taken_text, undelivered_text, waiting_text};
 
 use itoa::Buffer;
 use std::alloc::{AllocError, Global};
@@ -91,20 +92,25 @@ fn push_decimal(text: &mut Vec<u8>, value: u64) -> Result<(), AllocError>
     text.extend_from_slice(buffer.format(value).as_bytes())
 }
 
+/// Adds what is said of a metric.
+#[tactic(auto, unfolding(crate::specs::Text::remark))]
+fn push_remark(text: &mut Vec<u8>, front: &str, name: &str, said: &str) -> Result<(), AllocError>
+    ensures { OnOk result (text.new.items ≡ text.old.items ++ remark front.now name.now said.now) }
+{
+    text.extend_from_slice(front.as_bytes())?;
+    text.extend_from_slice(name.as_bytes())?;
+    text.extend_from_slice(b" ")?;
+    text.extend_from_slice(said.as_bytes())?;
+    text.extend_from_slice(b"\n")
+}
+
 /// Adds what a metric is, and of which kind.
 #[tactic(auto, unfolding(crate::specs::Text::head))]
 fn push_head(text: &mut Vec<u8>, name: &str, help: &str, kind: &str) -> Result<(), AllocError>
     ensures { OnOk result (text.new.items ≡ text.old.items ++ head name.now help.now kind.now) }
 {
-    text.extend_from_slice(b"# HELP ")?;
-    text.extend_from_slice(name.as_bytes())?;
-    text.extend_from_slice(b" ")?;
-    text.extend_from_slice(help.as_bytes())?;
-    text.extend_from_slice(b"\n# TYPE ")?;
-    text.extend_from_slice(name.as_bytes())?;
-    text.extend_from_slice(b" ")?;
-    text.extend_from_slice(kind.as_bytes())?;
-    text.extend_from_slice(b"\n")
+    push_remark(text, "# HELP ", name, help)?;
+    push_remark(text, "# TYPE ", name, kind)
 }
 
 /// Adds a metric of one value.
@@ -212,10 +218,10 @@ fn push_run(text: &mut Vec<u8>, metrics: &Metrics) -> Result<(), AllocError>
     )
 }
 
-/// Adds those of its commands.
-#[tactic(auto, unfolding(crate::specs::Text::each_text))]
-fn push_each(text: &mut Vec<u8>, commands: &[CommandMetrics]) -> Result<(), AllocError>
-    ensures { OnOk result (text.new.items ≡ text.old.items ++ each_text commands.now) }
+/// Adds how many letters each command has taken.
+#[tactic(auto, unfolding(crate::specs::Text::taken_text))]
+fn push_taken(text: &mut Vec<u8>, commands: &[CommandMetrics]) -> Result<(), AllocError>
+    ensures { OnOk result (text.new.items ≡ text.old.items ++ taken_text commands.now) }
 {
     push_commands(
         text,
@@ -224,7 +230,14 @@ fn push_each(text: &mut Vec<u8>, commands: &[CommandMetrics]) -> Result<(), Allo
         "counter",
         Figure::Taken,
         commands,
-    )?;
+    )
+}
+
+/// Adds how many notices of each were given up.
+#[tactic(auto, unfolding(crate::specs::Text::undelivered_text))]
+fn push_undelivered(text: &mut Vec<u8>, commands: &[CommandMetrics]) -> Result<(), AllocError>
+    ensures { OnOk result (text.new.items ≡ text.old.items ++ undelivered_text commands.now) }
+{
     push_commands(
         text,
         "notify_run_undelivered_total",
@@ -232,7 +245,14 @@ fn push_each(text: &mut Vec<u8>, commands: &[CommandMetrics]) -> Result<(), Allo
         "counter",
         Figure::Undelivered,
         commands,
-    )?;
+    )
+}
+
+/// Adds how many letters each has in hand.
+#[tactic(auto, unfolding(crate::specs::Text::waiting_text))]
+fn push_waiting(text: &mut Vec<u8>, commands: &[CommandMetrics]) -> Result<(), AllocError>
+    ensures { OnOk result (text.new.items ≡ text.old.items ++ waiting_text commands.now) }
+{
     push_commands(
         text,
         "notify_run_waiting",
@@ -240,7 +260,14 @@ fn push_each(text: &mut Vec<u8>, commands: &[CommandMetrics]) -> Result<(), Allo
         "gauge",
         Figure::Waiting,
         commands,
-    )?;
+    )
+}
+
+/// Adds how many tries have failed at each.
+#[tactic(auto, unfolding(crate::specs::Text::failures_text))]
+fn push_failures(text: &mut Vec<u8>, commands: &[CommandMetrics]) -> Result<(), AllocError>
+    ensures { OnOk result (text.new.items ≡ text.old.items ++ failures_text commands.now) }
+{
     push_commands(
         text,
         "notify_run_channel_failures_total",
@@ -249,6 +276,17 @@ fn push_each(text: &mut Vec<u8>, commands: &[CommandMetrics]) -> Result<(), Allo
         Figure::Failures,
         commands,
     )
+}
+
+/// Adds the metrics of the commands.
+#[tactic(auto, unfolding(crate::specs::Text::each_text))]
+fn push_each(text: &mut Vec<u8>, commands: &[CommandMetrics]) -> Result<(), AllocError>
+    ensures { OnOk result (text.new.items ≡ text.old.items ++ each_text commands.now) }
+{
+    push_taken(text, commands)?;
+    push_undelivered(text, commands)?;
+    push_waiting(text, commands)?;
+    push_failures(text, commands)
 }
 
 /// Adds those of its feed.
