@@ -183,12 +183,7 @@ fn push_commands(
 }
 
 /// Adds a metric of seconds since something, unless that never was.
-fn push_age(
-    text: &mut Vec<u8>,
-    name: &str,
-    help: &str,
-    age: Option<u64>,
-) -> Result<(), AllocError>
+fn push_age(text: &mut Vec<u8>, name: &str, help: &str, age: Option<u64>) -> Result<(), AllocError>
     ensures { OnOk result (text.new.items ≡ text.old.items ++ age_text name.now help.now age) }
 {
     match age {

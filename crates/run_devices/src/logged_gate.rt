@@ -18,11 +18,7 @@ pub(crate) struct LoggedGate<'c> {
 
 impl<'c> LoggedGate<'c> {
     /// This gate, beside a log.
-    pub(crate) fn new(
-        inner: CountingGate,
-        config: &'c Config,
-        log: SharedLog,
-    ) -> LoggedGate<'c> {
+    pub(crate) fn new(inner: CountingGate, config: &'c Config, log: SharedLog) -> LoggedGate<'c> {
         LoggedGate { inner, config, log }
     }
 }
