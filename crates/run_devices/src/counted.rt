@@ -56,6 +56,10 @@ impl Gate for CountingGate {
         self.teller.say_refused(line, fault);
     }
 
+    fn given_up(&self, notice: &Notice) {
+        self.teller.gives_up(notice.lane);
+    }
+
     fn wanting(&self) {
         self.teller.say_wanting();
     }
@@ -133,12 +137,14 @@ impl<C: Channel> Channel for CountedChannel<C> {
     }
 
     fn deliver(&mut self, letter: &Letter) -> Result<(), Fault> {
+        self.teller.begins();
         let outcome = self.channel.deliver(letter);
-        if outcome.is_ok() {
-            self.counts.count_message();
-            self.teller.taken();
-        } else {
-            self.teller.failed(letter);
+        match outcome {
+            Ok(()) => {
+                self.counts.count_message();
+                self.teller.taken();
+            }
+            Err(fault) => self.teller.failed(letter, fault),
         }
         outcome
     }

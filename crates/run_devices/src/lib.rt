@@ -8,6 +8,8 @@ pub mod horizon;
 mod logged_channel;
 mod logged_gate;
 pub mod logged_run;
+mod metered_feed;
+mod meters;
 mod rotated_file;
 pub mod run;
 mod run_log;
@@ -18,6 +20,6 @@ mod watcher;
 
 pub use fault::RunFault;
 pub use logged_run::{LoggedWords, do_logged_run};
-pub use run::do_run;
+pub use run::{RunWords, do_run};
 pub use settings::RunSettings;
 pub use watched::Watched;

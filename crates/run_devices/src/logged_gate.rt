@@ -45,6 +45,7 @@ impl Gate for LoggedGate<'_> {
             notice: *notice,
         };
         self.log.write(self.config, &line);
+        self.inner.given_up(notice);
     }
 
     fn channel_over(&self, lane: LaneId, number: u64, taken: u64) {

@@ -8,15 +8,16 @@ ghost use Rattle.run_devices.specs.Done.{IsLogged, RunsLogged};
 ghost use Rattle.run_devices.specs.Fault.{IsCommandFault, RunFails};
 
 use crate::channels::OpenedChannel;
-use crate::counted::{CountedChannel, CountingGate};
+use crate::counted::CountedChannel;
 use crate::fault::RunFault;
 use crate::horizon::ClockHorizon;
 use crate::logged_channel::LoggedChannel;
 use crate::logged_gate::LoggedGate;
-use crate::run::{open_words, posts_of, watch};
+use crate::run::{open_words, posts_of};
 use crate::run_log::{LogWriter, RunLog, SharedLog};
 use crate::settings::RunSettings;
-use crate::teller::{Teller, teller_of};
+use crate::teller::Teller;
+use crate::watched::Watched;
 use command_output::{AnyWriter, CommandFault, Ending, Sink};
 use due_model::config::{Config, LaneId};
 use due_model::zone::Zone;
@@ -47,6 +48,8 @@ pub struct LoggedWords<'m, 'a> {
     pub log: &'a str,
     /// Whether lines of the log that repeat the one before are folded.
     pub fold: bool,
+    /// The file that its metrics are written to, if they are.
+    pub metrics: Option<&'m str>,
 }
 
 /// Does a run that writes the lines of its report to a log as they happen, and the ends of its lanes to the writer once the feed is over. The log is opened
@@ -78,6 +81,7 @@ pub fn do_logged_run<'m, 'a, T: Threads + Wait + Clock + Sync, R: Input + Drop, 
         settings,
         log: words.log,
         fold: words.fold,
+        metrics: words.metrics,
     };
     let ending = log_through(rt, threads, site, &lanes, opened, feed, writer)?;
     Ok(ending)
@@ -93,6 +97,8 @@ struct LoggedSite<'s> {
     log: &'s str,
     /// Whether its lines are folded.
     fold: bool,
+    /// The file of the metrics.
+    metrics: Option<&'s str>,
 }
 
 /// Reads a feed, with channels for these lanes, one each in order, as `do_run` does, and writes the log and the ends of the lanes.
@@ -114,24 +120,26 @@ fn log_through<'a, T: Threads + Wait + Clock + Sync, R: Input + Drop, W: Sink>(
     ensures fault { IfErr result IsCommandFault }
 {
     let alloc = rt.alloc();
-    let (counts, mut watcher) = watch(rt, threads)?;
+    let mut watched = Watched::new(rt, threads, site.settings.quiet)?;
+    watched.write_metrics(site.config, site.metrics)?;
     let closers = Closers::new(alloc, site.config.lanes.len() as u8)?;
-    let teller = Arc::new(
-        alloc,
-        Teller::new(rt, Arc::try_clone(&counts)?, site.settings.quiet),
-    )?;
-    let log = opened_log(rt, site.log, &teller)?;
-    let counting = CountingGate::new(
-        Arc::try_clone(&counts)?,
-        Arc::try_clone(&teller)?,
-        site.settings.pause,
-    );
+    let log = opened_log(rt, site.log, &watched.teller)?;
+    let counting = watched.gate(site.settings.pause)?;
     let gate = LoggedGate::new(counting, site.config, Arc::try_clone(&log)?);
     let deciders = site.settings.settings.deciders;
     let logs = decider_lines(alloc, site.config, deciders, site.fold, &log)?;
-    let posts = posts_of(alloc, site.config, lanes, channels, &counts, &teller)?;
+    let posts = posts_of(
+        alloc,
+        site.config,
+        lanes,
+        channels,
+        &watched.counts,
+        &watched.teller,
+    )?;
     let posts = logged_posts(alloc, site.config, posts, &log)?;
-    teller.say_unserved(site.config, lanes);
+    watched.teller.say_unserved(site.config, lanes);
+    let feed = watched.feed(feed)?;
+    let mut watcher = watched.watcher;
     let LoggedEnd {
         outcome,
         channels: _,

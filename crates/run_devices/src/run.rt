@@ -15,7 +15,6 @@ use crate::horizon::ClockHorizon;
 use crate::settings::RunSettings;
 use crate::teller::{Teller, teller_of};
 use crate::watched::Watched;
-use crate::watcher::RunWatcher;
 use channel::Channel;
 use channel_words::{ChannelWord, lanes_of, read_words};
 use command_input::read_object_file;
@@ -35,6 +34,27 @@ use text_lines::{AnyReader, Input};
 /// A channel of a run: it was opened as a word says, and counts what it takes.
 pub type SentChannel = CountedChannel<OpenedChannel>;
 
+/// What a run is asked.
+#[derive(Clone, Copy, Debug)]
+pub struct RunWords<'m, 'a> {
+    /// The file with the object text.
+    pub objects: &'m str,
+    /// The channel words.
+    pub channels: Option<&'m [&'a str]>,
+    /// The file that its metrics are written to, if they are.
+    pub metrics: Option<&'m str>,
+}
+
+/// What a run is over.
+#[derive(Clone, Copy)]
+struct RunSite<'s> {
+    config: &'s Config,
+    zone: &'s Zone,
+    settings: RunSettings,
+    /// The file of its metrics.
+    metrics: Option<&'s str>,
+}
+
 /// What a run leaves that was done.
 #[derive(Drop)]
 pub struct RunDone {
@@ -47,33 +67,36 @@ pub struct RunDone {
 /// Does a run. The shape of all words is looked at before the object text is read; their names once that is accepted; then
 /// the channels are opened, in the order of the words; and then the feed is read. The handle is of the machine, and again that
 /// by which threads are started.
-pub fn do_run<'a, T: Threads + Wait + Clock + Sync, R: Input + Drop, W: Sink>(
+pub fn do_run<'m, 'a, T: Threads + Wait + Clock + Sync, R: Input + Drop, W: Sink>(
     rt: &HostRuntime,
     threads: &T,
     zone: &Zone,
-    objects: &str,
+    words: RunWords<'m, 'a>,
     settings: RunSettings,
-    channels: Option<&[&'a str]>,
     feed: R,
     writer: &mut W,
 ) -> Result<RunDone, RunFault<'a>>
     // It is done only where all checks of the words went well, and then the report of a run was written, with channels for the
     // lanes that they name; and lane by lane, what it tells is what the channels that come back have taken.
     ensures ok { let texts = map (λ text. text.now)
-        (unwrap_or (option_map (λ given. given.now) channels.entry) [])
+        (unwrap_or (option_map (λ given. given.now) words.entry.channels) [])
         in IfOk result (λ done. IsDone ⟦<CountedChannel<OpenedChannel> as Channel>⟧.account
         ⟦<CountedChannel<OpenedChannel> as Channel>⟧.offered (λ cs. cs.items) (λ c. opened c.channel)
         texts R.can_fail (is_none settings.ahead) zone.now settings.settings.tries done.channels.items (R.remaining feed) done.ending
         (W.contents writer.old) (W.contents writer.new)) }
     // What it fails with, and that the earlier checks went well.
     ensures fault { let texts = map (λ text. text.now)
-        (unwrap_or (option_map (λ given. given.now) channels.entry) [])
+        (unwrap_or (option_map (λ given. given.now) words.entry.channels) [])
         in IfErr result (RunFails texts) }
 {
-    let (config, lanes, opened) = open_words(rt, objects, channels, settings.limit())?;
-    let done = run_through(
-        rt, threads, &config, zone, settings, &lanes, opened, feed, writer,
-    )?;
+    let (config, lanes, opened) = open_words(rt, words.objects, words.channels, settings.limit())?;
+    let site = RunSite {
+        config: &config,
+        zone,
+        settings,
+        metrics: words.metrics,
+    };
+    let done = run_through(rt, threads, site, &lanes, opened, feed, writer)?;
     Ok(done)
 }
 
@@ -156,16 +179,6 @@ pub fn posts_of(
     Ok(posts)
 }
 
-/// What a run counts by, and who shows it. A refused growth is the only error.
-pub(crate) fn watch<'r, T: Threads>(
-    rt: &'r HostRuntime,
-    threads: &'r T,
-) -> Result<(Arc<Counts, Global>, RunWatcher<'r, T>), AllocError> {
-    let counts = Arc::new(rt.alloc(), Counts::new())?;
-    let watcher = RunWatcher::new(rt, threads, Arc::try_clone(&counts)?);
-    Ok((counts, watcher))
-}
-
 /// Reads a feed, with these posts, where of several for one lane the first serves and each other where the one before has failed. What is
 /// counted is shown until it is over. The channels come back, lane by lane.
 pub fn run_posts<C: Channel, T: Threads + Wait + Clock + Sync, R: Input + Drop, W: Sink>(
@@ -187,6 +200,7 @@ pub fn run_posts<C: Channel, T: Threads + Wait + Clock + Sync, R: Input + Drop, 
     let closers = Closers::new(alloc, config.lanes.len() as u8)?;
     let gate = watched.gate(settings.pause)?;
     let rt = *watched.rt;
+    let feed = watched.feed(feed)?;
     let mut watcher = watched.watcher;
     let (outcome, channels) = run(
         watched.threads,
@@ -216,34 +230,42 @@ pub fn run_posts<C: Channel, T: Threads + Wait + Clock + Sync, R: Input + Drop, 
 fn run_through<'a, T: Threads + Wait + Clock + Sync, R: Input + Drop, W: Sink>(
     rt: &HostRuntime,
     threads: &T,
-    config: &Config,
-    zone: &Zone,
-    settings: RunSettings,
+    site: RunSite<'_>,
     lanes: &[LaneId],
     channels: Vec<OpenedChannel>,
     feed: R,
     writer: &mut W,
 ) -> Result<RunDone, RunFault<'a>>
-    requires accepted { IsAccepted config.now }
+    requires accepted { IsAccepted site.config.now }
     requires each { length channels.items ≡ length lanes.now }
     requires few { (l : ℕ) → channels_for lanes.now l ≤ 8 }
     ensures report { IfOk result (λ done. RunsWith ⟦<CountedChannel<OpenedChannel> as Channel>⟧.account
         ⟦<CountedChannel<OpenedChannel> as Channel>⟧.offered (λ cs. cs.items) (λ c. c.channel)
-        R.can_fail (is_none settings.ahead) config.now zone.now settings.settings.tries lanes.now
+        R.can_fail (is_none site.entry.settings.ahead) site.entry.config.now site.entry.zone.now
+        site.entry.settings.settings.tries lanes.now
         (numbered_from 0 channels.items) done.channels.items
         (R.remaining feed) done.ending (W.contents writer.old) (W.contents writer.new)) }
     ensures fault { IfErr result IsCommandFault }
 {
-    let watched = Watched::new(rt, threads, settings.quiet)?;
+    let mut watched = Watched::new(rt, threads, site.settings.quiet)?;
+    watched.write_metrics(site.config, site.metrics)?;
     let posts = posts_of(
         rt.alloc(),
-        config,
+        site.config,
         lanes,
         channels,
         &watched.counts,
         &watched.teller,
     )?;
-    watched.teller.say_unserved(config, lanes);
-    let (ending, channels) = run_posts(watched, config, zone, settings, posts, feed, writer)?;
+    watched.teller.say_unserved(site.config, lanes);
+    let (ending, channels) = run_posts(
+        watched,
+        site.config,
+        site.zone,
+        site.settings,
+        posts,
+        feed,
+        writer,
+    )?;
     Ok(RunDone { ending, channels })
 }

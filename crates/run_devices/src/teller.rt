@@ -1,6 +1,8 @@
 //! What a run says at once on standard error: a line of the feed that is refused, a channel that failed for good, a lane that
-//! closed since its last channel has, or that has none, and want of memory.
+//! closed since its last channel has, or that has none, and want of memory. And what it counts for its metrics, where they are written.
 
+use crate::meters::Meters;
+use channel::Fault;
 use channel::letter::Letter;
 use due_model::config::{Config, LaneId};
 use notice_text::texts::lane_name;
@@ -27,6 +29,8 @@ pub struct Teller {
     begin: &'static str,
     /// Whether it was said that memory ran out.
     was_wanting: AtomicBool,
+    /// What counts for the metrics, if they are written.
+    meters: Option<Arc<Meters, Global>>,
 }
 
 impl Teller {
@@ -39,6 +43,92 @@ impl Teller {
             is_quiet,
             begin,
             was_wanting: AtomicBool::new(false),
+            meters: None,
+        }
+    }
+
+    /// The same, which also tells these meters what is counted.
+    pub(crate) fn metered(self, meters: Arc<Meters, Global>) -> Teller {
+        let Teller {
+            rt,
+            counts,
+            is_quiet,
+            begin,
+            was_wanting,
+            meters: _,
+        } = self;
+        Teller {
+            rt,
+            counts,
+            is_quiet,
+            begin,
+            was_wanting,
+            meters: Some(meters),
+        }
+    }
+
+    /// The meters, if there are any. A refused growth is the only error.
+    pub(crate) fn meters(&self) -> Result<Option<Arc<Meters, Global>>, AllocError> {
+        match &self.meters {
+            Some(meters) => Ok(Some(Arc::try_clone(meters)?)),
+            None => Ok(None),
+        }
+    }
+
+    /// Whether nothing is said.
+    pub(crate) fn is_quiet(&self) -> bool {
+        self.is_quiet
+    }
+
+    /// A letter is tried at a command.
+    fn begins(&self, lane: LaneId) {
+        if let Some(meters) = &self.meters {
+            meters.begins(lane);
+        }
+    }
+
+    /// A command has taken it.
+    fn takes(&self, lane: LaneId) {
+        if let Some(meters) = &self.meters {
+            meters.takes(lane);
+        }
+    }
+
+    /// A device of a command has failed.
+    fn fails(&self, lane: LaneId) {
+        if let Some(meters) = &self.meters {
+            meters.fails(lane);
+        }
+    }
+
+    /// A command gives a notice up.
+    pub(crate) fn gives_up(&self, lane: LaneId) {
+        if let Some(meters) = &self.meters {
+            meters.gives_up(lane);
+        }
+    }
+
+    /// Writes the metrics, if there are any. Where the file can't be written, that is said once.
+    pub(crate) fn write_metrics(&self) {
+        if let Some(meters) = &self.meters {
+            if !meters.write(self.counts.progress().events) {
+                self.say("metrics: the file can't be written; the run goes on");
+            }
+        }
+    }
+
+    /// Whether more is counted for the metrics.
+    pub(crate) fn is_metered(&self) -> bool {
+        match &self.meters {
+            Some(meters) => !meters.is_over(),
+            None => false,
+        }
+    }
+
+    /// No more is counted for them.
+    pub(crate) fn end_metrics(&self) {
+        if let Some(meters) = &self.meters {
+            meters.end();
         }
     }
 
@@ -129,15 +219,16 @@ pub(crate) fn teller_of(
         }
     }
     let name = String::from_str(alloc, name_of(config, lane))?;
-    Ok(LaneTeller::new(teller, name, before, has_next))
+    Ok(LaneTeller::new(teller, lane, name, before, has_next))
 }
 
 /// What is said of one channel of a lane.
 #[derive(Drop)]
 pub struct LaneTeller {
     teller: Arc<Teller, Global>,
-    /// The name of its command.
-    lane: String,
+    /// Its command, and the name of that.
+    lane: LaneId,
+    name: String,
     /// Which channel of the lane it is, the first 0.
     place: usize,
     /// Whether another stands by.
@@ -150,26 +241,37 @@ impl LaneTeller {
     /// Of a channel that has taken nothing.
     pub fn new(
         teller: Arc<Teller, Global>,
-        lane: String,
+        lane: LaneId,
+        name: String,
         place: usize,
         has_next: bool,
     ) -> LaneTeller {
         LaneTeller {
             teller,
             lane,
+            name,
             place,
             has_next,
             failed: None,
         }
     }
 
+    /// A letter is tried.
+    pub(crate) fn begins(&self) {
+        self.teller.begins(self.lane);
+    }
+
     /// A letter was taken.
     pub(crate) fn taken(&mut self) {
         self.failed = None;
+        self.teller.takes(self.lane);
     }
 
     /// A try of a letter has failed.
-    pub(crate) fn failed(&mut self, letter: &Letter) {
+    pub(crate) fn failed(&mut self, letter: &Letter, fault: Fault) {
+        if fault == Fault::Device {
+            self.teller.fails(self.lane);
+        }
         if self.failed.is_none() {
             self.failed = named(self.teller.rt.alloc(), letter);
         }
@@ -185,7 +287,7 @@ impl LaneTeller {
     /// Says that the channel failed for good at that letter, and what becomes of this. A refused growth is the only error.
     fn say_end(&self, letter: &str) -> Result<(), AllocError> {
         let alloc = self.teller.rt.alloc();
-        let lane = self.lane.as_str();
+        let lane = self.name.as_str();
         let place = self.place;
         let next = place.saturating_add(1);
         let text = if self.has_next {
