@@ -1,8 +1,9 @@
-use Rattle.std.proofs.Common.{rules, ◌≤◌, is_none, map, refl, sym, subst}
+use Rattle.std.proofs.Common.{rules, ◌≤◌, ℕ, List, Option, is_none, map, refl, sym, subst}
 use Rattle.std.proofs.lemmas.Result.{IfOk-at_ok}
 use Rattle.channel_words.specs.Lanes.{channels_for}
 use Rattle.engine.specs.Lanes.{count_of}
 use Rattle.run_command.specs.Report.{WritesReport}
+use Rattle.run_devices.specs.Done.{WritesRun}
 use Rattle.run_devices.proofs.PostLaws.{report_posted, same_posted}
 use Rattle.run_devices.proofs.run.run_posts.Goals as goal
 
@@ -14,9 +15,12 @@ pub returns-clause-report : goal.returns-clause-report
 returns-clause-report g c =
     let posts = c.args.posts.items in
     let report = c.run-outcome.ensures.report in
-    report_posted g.R.Input.can_fail (is_none c.args.settings.ahead) c.args.config.now c.args.zone.now (count_of (λ post. post.lane.0) posts) (channels_for (map (λ post. post.lane) posts)) _
-    (g.R.Read.remaining c.args.feed) (g.W.Write.contents c.args.writer.now) (g.W.Write.contents c.run-outcome.new.writer) _
+    subst (λ (known : Option (List ℕ)). WritesRun g.C.Channel.account g.C.Channel.offered (λ cs. cs.items) g.R.Input.can_fail (is_none c.args.settings.ahead) c.args.config.now c.args.zone.now
+    c.args.settings.settings.tries posts c.run-outcome.result.1.items known _ (g.W.Write.contents c.args.writer.now) (g.W.Write.contents c.run-outcome.new.writer))
+    c.in_ok-feed.ensures
+    (report_posted g.R.Input.can_fail (is_none c.args.settings.ahead) c.args.config.now c.args.zone.now (count_of (λ post. post.lane.0) posts) (channels_for (map (λ post. post.lane) posts)) _
+    c.in_ok-feed.feed (g.W.Write.contents c.args.writer.now) (g.W.Write.contents c.run-outcome.new.writer) _
     (same_posted (λ post. post.lane) posts (map (λ post. post.lane) posts) refl)
     (IfOk-at_ok (λ ending. WritesReport g.R.Input.can_fail (is_none c.args.settings.ahead) c.args.config.now c.args.zone.now (count_of (λ post. post.lane.0) posts) _
-    (g.R.Read.remaining c.args.feed) ending (g.W.Write.contents c.args.writer.now) (g.W.Write.contents c.run-outcome.new.writer))
-    {r = c.run-outcome.result.0} (search rules) report)
+    c.in_ok-feed.feed ending (g.W.Write.contents c.args.writer.now) (g.W.Write.contents c.run-outcome.new.writer))
+    {r = c.run-outcome.result.0} (search rules) report))
