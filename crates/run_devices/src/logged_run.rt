@@ -102,10 +102,10 @@ struct LoggedSite<'s> {
 }
 
 /// Reads a feed, with channels for these lanes, one each in order, as `do_run` does, and writes the log and the ends of the lanes.
-fn log_through<'a, T: Threads + Wait + Clock + Sync, R: Input + Drop, W: Sink>(
-    rt: &HostRuntime,
-    threads: &T,
-    site: LoggedSite<'_>,
+fn log_through<'s, 'a, T: Threads + Wait + Clock + Sync, R: Input + Drop, W: Sink>(
+    rt: &'s HostRuntime,
+    threads: &'s T,
+    site: LoggedSite<'s>,
     lanes: &[LaneId],
     channels: Vec<OpenedChannel>,
     feed: R,
