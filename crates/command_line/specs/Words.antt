@@ -12,8 +12,10 @@ use Rattle.clap.specs.Words.{App, Rule, new_app, new_rule, rows_of, subcommand_r
 use Rattle.clap.specs.Words.{with_rule}
 use Rattle.steps.specs.declared.settings.Settings.{Settings}
 use Rattle.steps.specs.Settings.{AreSettings, max_channels}
-use Rattle.clap.specs.declared.builder.action.ArgAction.TheVariants.{Append, SetTrue}
+use Rattle.clap.specs.declared.builder.action.ArgAction.TheVariants.{Append}
 use Rattle.clap.specs.declared.builder.value_parser.ValueParser.TheVariants.{Signed}
+use Rattle.command_line.specs.Check.{check_words, CheckLacks, IsCheckOf}
+pub use Rattle.command_line.specs.Options.{flag_option, IsFlag, text_option}
 use Rattle.command_line.specs.declared.words.FeedFault.{FeedFault}
 use Rattle.command_line.specs.declared.words.FeedFault.TheVariants.{Ahead, BadDoubt, NoFeed, NoState}
 use Rattle.command_line.specs.declared.words.FeedWords.{FeedWords}
@@ -24,7 +26,7 @@ use Rattle.command_line.specs.declared.words.StateWords.{StateWords}
 use Rattle.command_line.specs.declared.words.TryTimes.{TryTimes}
 use Rattle.command_line.specs.declared.words.WhoWords.{WhoWords}
 use Rattle.command_line.specs.declared.words.ZoneWords.{ZoneWords}
-use Rattle.command_line.specs.declared.words.Request.TheVariants.{Replay, Trace, Run, Who, Diff}
+use Rattle.command_line.specs.declared.words.Request.TheVariants.{Replay, Trace, Run, Who, Diff, Check}
 
 -- the name of the command that is asked for
 abbrev pub request_name : Request → List ℕ
@@ -33,6 +35,7 @@ request_name (Trace settings standbys zone) = codes "trace"
 request_name (Run objects settings zone channels times quiet ahead log feed) = codes "run"
 request_name (Who objects zone asked) = codes "who"
 request_name (Diff objects changed zone json) = codes "diff"
+request_name (Check asked) = codes "check"
 
 -- in a trace fewer channels stand by than a lane may have
 abbrev pub AreSettingsFit : Request → Type 0
@@ -41,17 +44,12 @@ AreSettingsFit (Trace settings standbys zone) = standbys < max_channels
 AreSettingsFit (Run objects settings zone channels times quiet ahead log feed) = Unit {0}
 AreSettingsFit (Who objects zone asked) = Unit {0}
 AreSettingsFit (Diff objects changed zone json) = Unit {0}
+AreSettingsFit (Check asked) = Unit {0}
 
 -- the texts that the options of a command hold of the zone
 pub record IsZoneOf (options : Found) (words : ZoneWords) : Type 0 where
   pub rule : option_copied words.rule ≡ first_value options (codes "zone")
   pub file : option_copied words.file ≡ first_value options (codes "zone-file")
-
--- A flag is on where it is given, and off where it isn't.
-pub record IsFlag (options : Found) (name : List ℕ) (flag : Bool) : Type 0 where
-  pub left_out : one_text options name ≡ None → flag ≡ false
-  pub on : one_text options name ≡ Some (codes "true") → flag ≡ true
-  pub off : one_text options name ≡ Some (codes "false") → flag ≡ false
 
 -- the texts that they hold of which lines of a report are wanted, and whether each is to be JSON, or for people
 pub record IsShownOf (options : Found) (words : ShownWords) : Type 0 where
@@ -176,6 +174,7 @@ IsRequestOf options (Diff objects changed zone json) =
     (Some objects.now ≡ first_value options (codes "objects"))
     × (Some changed.now ≡ first_value options (codes "with")) × IsZoneOf options zone
     × IsFlag options (codes "json") json
+IsRequestOf options (Check asked) = IsCheckOf options asked
 
 -- it is what the command that was met asks, with its options
 abbrev pub IsAskedBy : ArgMatches → Request → Type 0
@@ -195,6 +194,7 @@ request_zone (Trace settings standbys zone) = zone
 request_zone (Run objects settings zone channels times quiet ahead log feed) = zone
 request_zone (Who objects zone asked) = zone
 request_zone (Diff objects changed zone json) = zone
+request_zone (Check asked) = record { rule = None; file = None }
 
 -- letters in doubt are given up
 abbrev pub drops_doubt : StateWords → Bool
@@ -219,6 +219,8 @@ feed_fault (Replay objects zone shown) = None
 feed_fault (Trace settings standbys zone) = None
 feed_fault (Run objects settings zone channels times quiet ahead log feed) = fault_of feed ahead
 feed_fault (Who objects zone asked) = None
+feed_fault (Diff objects changed zone json) = None
+feed_fault (Check asked) = None
 
 -- it gives a rule and a file
 abbrev pub AreTwo : ZoneWords → Type 0
@@ -237,8 +239,10 @@ has_two_forms words = words.json && words.pretty
 abbrev pub asks_two_forms : Request → Bool
 asks_two_forms (Replay objects zone shown) = has_two_forms shown
 asks_two_forms (Trace settings standbys zone) = false
-asks_two_forms (Run objects settings zone channels times quiet ahead) = false
+asks_two_forms (Run objects settings zone channels times quiet ahead log feed) = false
 asks_two_forms (Who objects zone asked) = false
+asks_two_forms (Diff objects changed zone json) = false
+asks_two_forms (Check asked) = false
 
 -- a line of a report begins with this letter: N, S, C or R
 abbrev pub is_line_letter : ℕ → Bool
@@ -255,6 +259,7 @@ asks_bad_letters (Trace settings standbys zone) = false
 asks_bad_letters (Run objects settings zone channels times quiet ahead log feed) = false
 asks_bad_letters (Who objects zone asked) = false
 asks_bad_letters (Diff objects changed zone json) = false
+asks_bad_letters (Check asked) = false
 
 -- `--NAME NUMBER`, with a number from `least` to `most`, or with `default` where it is left out
 abbrev pub number_option : (name default : List ℕ) → (least most : ℕ) → Rule
@@ -271,20 +276,6 @@ bare_number_option name least most = record (new_rule name) {
   long = Some name;
   value_names = 1;
   parser = Some (Signed (pos least) (pos most));
-}
-
--- `--NAME TEXT`, which may be left out
-abbrev pub text_option : List ℕ → Rule
-text_option name = record (new_rule name) {
-  long = Some name;
-  value_names = 1;
-}
-
--- `--NAME`, which may be left out
-abbrev pub flag_option : List ℕ → Rule
-flag_option name = record (new_rule name) {
-  long = Some name;
-  action = Some SetTrue;
 }
 
 -- words without an option, of which there may be any number
@@ -405,5 +396,5 @@ program_words = record {
     subcommand_required = true;
     arg_required_else_help = true;
   };
-  subs = replay_words.top ∷ trace_words.top ∷ run_words.top ∷ who_words.top ∷ diff_words.top ∷ [];
+  subs = replay_words.top ∷ trace_words.top ∷ run_words.top ∷ who_words.top ∷ diff_words.top ∷ check_words.top ∷ [];
 }

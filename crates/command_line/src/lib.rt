@@ -2,6 +2,7 @@
 #![tactic(auto)]
 
 mod asked;
+pub mod check;
 mod diff;
 mod options;
 mod replay;
@@ -11,6 +12,7 @@ mod who;
 pub mod words;
 
 pub use asked::{command, request_of};
+pub use check::CheckWords;
 pub use words::{
     FeedFault, FeedWords, LogWords, Request, ShownWords, StateWords, WhoWords, ZoneWords,
 };

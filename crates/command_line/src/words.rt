@@ -7,6 +7,7 @@ ghost use Rattle.command_line.specs.Words.{has_bad_letters, asks_bad_letters, as
 ghost use Rattle.command_line.specs.Words.{is_line_letter, is_plain, drops_doubt, fault_of, feed_fault};
 ghost use Rattle.command_line.specs.Words.{is_doubt_word, request_zone};
 
+use crate::check::CheckWords;
 use steps::Settings;
 
 /// What a command line says of the zone of local times: neither, for UTC, or one of the two; both are one too many.
@@ -247,6 +248,10 @@ pub enum Request<'m, 'a> {
         /// Whether each line is to be an object of JSON.
         json: bool,
     },
+    /// The faults of the object text in the files.
+    Check {
+        asked: CheckWords<'m, 'a>,
+    },
 }
 
 impl<'a> Request<'_, 'a> {
@@ -260,6 +265,10 @@ impl<'a> Request<'_, 'a> {
             Request::Run { zone, .. } => zone,
             Request::Who { zone, .. } => zone,
             Request::Diff { zone, .. } => zone,
+            Request::Check { .. } => ZoneWords {
+                rule: None,
+                file: None,
+            },
         }
     }
 

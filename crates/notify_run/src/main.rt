@@ -12,12 +12,14 @@ ghost use Rattle.notify_run.specs.Zones.{IsBadRule};
 ghost use Rattle.run_devices.specs.Fault.{run_status};
 ghost use Rattle.steps.specs.Settings.{max_channels};
 
+mod check;
 mod diff;
 mod feeds;
 mod pretty;
 mod who;
 mod zones;
 
+use check::status_of_check;
 use clap::error::ErrorKind;
 use command_line::{Request, ShownWords, command, request_of};
 use command_output::{AnyWriter, CommandFault, Ending, exit_status};
@@ -243,6 +245,7 @@ fn status_of_request<T: Threads + Wait + Clock + Sync>(
             json,
             ..
         } => return status_of_diff(rt, &zone, objects, changed, json),
+        Request::Check { asked } => return status_of_check(rt, asked),
         Request::Run {
             objects,
             settings,

@@ -38,7 +38,10 @@ returns c =
     let diff_is = c.in_ok-diff_command.ensures.words in
     let who_added = c.in_ok-subcommand-4.ensures.shape (third_is_false _ _ _ _ (ap (λ (a : App). a.top.is_plain) who_is))
     ∙ ap₂ with_subcommand run_added (ap (λ (a : App). a.top) who_is) in
+    let check_is = c.in_ok-check_command.ensures.words in
+    let diff_added = c.in_ok-subcommand-5.ensures.shape (third_is_false _ _ _ _ (ap (λ (a : App). a.top.is_plain) diff_is))
+    ∙ ap₂ with_subcommand who_added (ap (λ (a : App). a.top) diff_is) in
     record {
-      words = IfOk-weaker c.subcommand-5.result _ _ (λ r h. h.shape (third_is_false _ _ _ _ (ap (λ (a : App). a.top.is_plain) diff_is))
-          ∙ ap₂ with_subcommand who_added (ap (λ (a : App). a.top) diff_is)) c.subcommand-5.ensures;
+      words = IfOk-weaker c.subcommand-6.result _ _ (λ r h. h.shape (third_is_false _ _ _ _ (ap (λ (a : App). a.top.is_plain) check_is))
+          ∙ ap₂ with_subcommand diff_added (ap (λ (a : App). a.top) check_is)) c.subcommand-6.ensures;
     }

@@ -1,5 +1,6 @@
 use Rattle.std.proofs.Common.{List, Some, codes, ap, sym, ℕ, ◌∙◌}
 use Rattle.clap.specs.Matches.{found_of}
+use Rattle.command_line.specs.Check.{CheckLacks}
 use Rattle.command_line.specs.Words.{DiffLacks, RunLacks, TraceLacks, WhoLacks}
 use Rattle.command_line.proofs.RequestLemmas.{is-asked, none-asked, some-asked}
 use Rattle.command_line.proofs.asked.request_of.Goals as goal
@@ -57,3 +58,15 @@ returns-in-Some-diff-default-clause-diff c =
     let met = c.in-Some-diff-default in
     none-asked c.args.matches.now (found_of met.options.now) (codes "diff") c.diff_request.result DiffLacks (ap (λ (n : List ℕ). Some n) (sym met.is-diff) ∙ met.ensures.name) met.ensures.rows
     c.diff_request.ensures.lacking
+
+pub returns-in-Some-check-default-clause-asked : goal.returns-in-Some-check-default-clause-asked
+returns-in-Some-check-default-clause-asked c =
+    let met = c.in-Some-check-default in
+    some-asked c.args.matches.now (found_of met.options.now) (codes "check") c.check_request.result (ap (λ (n : List ℕ). Some n) (sym met.is-check) ∙ met.ensures.name) met.ensures.rows
+    c.check_request.ensures.named c.check_request.ensures.options
+
+pub returns-in-Some-check-default-clause-check : goal.returns-in-Some-check-default-clause-check
+returns-in-Some-check-default-clause-check c =
+    let met = c.in-Some-check-default in
+    none-asked c.args.matches.now (found_of met.options.now) (codes "check") c.check_request.result CheckLacks (ap (λ (n : List ℕ). Some n) (sym met.is-check) ∙ met.ensures.name) met.ensures.rows
+    c.check_request.ensures.lacking

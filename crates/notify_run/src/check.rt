@@ -1,0 +1,127 @@
+//! The command `check`: all faults of object text.
+
+use command_line::CheckWords;
+use command_output::{AnyWriter, CommandFault};
+use faults_told::located::Source;
+use object_faults::load_fault::LoadFault;
+use site_check::{Checked, Form, check};
+use std::alloc::AllocError;
+use std::fs::File;
+use std::io::Write;
+use std::process::ExitCode;
+use text_lines::{AnyReader, LineReader, TextFault};
+
+/// The text of several files, one after another.
+#[derive(Drop)]
+struct Texts<'a> {
+    text: Vec<u8>,
+    sources: Vec<Source<'a>>,
+    /// How many lines the text has.
+    lines: u64,
+}
+
+/// How many lines a text has that ends with a newline.
+fn line_count(text: &[u8]) -> u64 {
+    let mut count: u64 = 0;
+    for byte in text {
+        if *byte == b'\n' {
+            count = count.saturating_add(1);
+        }
+    }
+    count
+}
+
+/// Adds the text of a file.
+fn add<'a>(texts: &mut Texts<'a>, name: &'a str, text: Vec<u8>) -> Result<(), AllocError> {
+    texts.sources.push(Source {
+        name,
+        before: texts.lines,
+    })?;
+    texts.text.extend_from_slice(text.as_slice())?;
+    texts.lines = texts.lines.saturating_add(line_count(text.as_slice()));
+    match text.as_slice() {
+        [] | [.., b'\n'] => Ok(()),
+        _ => {
+            texts.text.push(b'\n')?;
+            texts.lines = texts.lines.saturating_add(1);
+            Ok(())
+        }
+    }
+}
+
+/// The text of a file.
+fn read_file(rt: &HostRuntime, name: &str) -> Result<Vec<u8>, CommandFault> {
+    let Ok(file) = File::open(rt, name) else {
+        return Err(CommandFault::Unreadable);
+    };
+    let mut lines = LineReader::new(rt.alloc(), AnyReader::new(file))?;
+    match lines.read_text(rt.alloc(), None) {
+        Ok(text) => Ok(text),
+        Err(TextFault::Unreadable) => Err(CommandFault::Unreadable),
+        Err(TextFault::TooLarge) => Err(CommandFault::Objects(LoadFault::TooLarge)),
+        Err(TextFault::NoMemory) => Err(CommandFault::NoMemory),
+    }
+}
+
+/// Reads a file, and adds its text.
+fn add_file<'a>(
+    rt: &HostRuntime,
+    texts: &mut Texts<'a>,
+    name: &'a str,
+) -> Result<(), CommandFault> {
+    let text = read_file(rt, name)?;
+    add(texts, name, text)?;
+    Ok(())
+}
+
+/// Says on standard error what a file failed with.
+fn say<R: Eprint>(rt: &R, fault: CommandFault, name: &str) {
+    let _ = rt.eprintln(format_args!("{fault}"));
+    if matches!(fault, CommandFault::Unreadable) {
+        let _ = rt.eprintln(format_args!("    {name}"));
+    }
+}
+
+/// Writes the report.
+fn write_report<W: Write>(writer: &mut W, checked: &Checked) -> Result<(), CommandFault> {
+    if writer.write_all(checked.report.as_slice()).is_err() || writer.flush().is_err() {
+        return Err(CommandFault::Output);
+    }
+    Ok(())
+}
+
+/// Checks the texts, writes the report, and says how many faults there are.
+fn check_texts(rt: &HostRuntime, texts: Texts<'_>, json: bool) -> Result<u64, CommandFault> {
+    let form = Form {
+        sources: texts.sources.as_slice(),
+        json,
+    };
+    let checked = check(rt.alloc(), form, texts.text)?;
+    let mut writer = AnyWriter::new(rt.stdout());
+    write_report(&mut writer, &checked)?;
+    Ok(checked.faults)
+}
+
+/// Checks object text, and gives the exit status: 1 where there is a fault.
+pub(crate) fn status_of_check(rt: &HostRuntime, asked: CheckWords<'_, '_>) -> ExitCode {
+    let alloc = rt.alloc();
+    let mut texts = Texts {
+        text: Vec::new(alloc),
+        sources: Vec::new(alloc),
+        lines: 0,
+    };
+    for name in asked.objects {
+        if let Err(fault) = add_file(rt, &mut texts, *name) {
+            say(rt, fault, *name);
+            return ExitCode::from(fault.status());
+        }
+    }
+    match check_texts(rt, texts, asked.json) {
+        Ok(0) => ExitCode::from(0),
+        Ok(_) => ExitCode::from(1),
+        Err(fault) => {
+            say(rt, fault, "");
+            ExitCode::from(fault.status())
+        }
+    }
+}
