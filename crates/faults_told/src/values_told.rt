@@ -1,5 +1,8 @@
 //! The faults of values and names, each with the block that holds the value.
 
+ghost use Rattle.std.specs.Prelude.{OnOk};
+ghost use Rattle.object_inheritance.specs.LineSearch.{AreMarks};
+
 use crate::near::nearest;
 use crate::ranges_told::{first_wrong, range_fault};
 use crate::telling::{Detail, Telling};
@@ -9,7 +12,7 @@ use object_check::rows::{Must, Row};
 use object_faults::column::Check;
 use object_faults::load_fault::BlockFault;
 use object_groups::names::Names;
-use object_inheritance::dated_lines::{Line, line_marks, lines_at};
+use object_inheritance::dated_lines::{Line, LineMarks, line_marks, lines_at};
 use object_inheritance::inherited::Values;
 use object_inheritance::templates::Templates;
 use object_names::named::{NamedKind, NamedObjects};
@@ -332,8 +335,8 @@ fn is_wrong_line(must: Must, line: &Line<'_>) -> bool {
     }
 }
 
-/// What is told of a line of dates.
-fn line_telling<'a>(must: Must, line: Line<'a>, place: usize, holder: usize) -> Telling<'a> {
+/// What is told of a line of dates of the block at the place.
+fn line_telling<'a>(must: Must, line: Line<'a>, place: usize) -> Telling<'a> {
     let (fault, detail, value) = match (must, day_named(line.name)) {
         (Must::HaveDayLines, _) => (BlockFault::DatedException, Detail::OtherDay, line.text),
         (_, DayName::Day(_)) if line.text.contains(&b':') => {
@@ -343,7 +346,7 @@ fn line_telling<'a>(must: Must, line: Line<'a>, place: usize, holder: usize) -> 
         _ => (BlockFault::BadRange, Detail::NoDay, line.text),
     };
     Telling {
-        holder,
+        holder: place,
         fault,
         directive: line.name,
         value,
@@ -352,6 +355,30 @@ fn line_telling<'a>(must: Must, line: Line<'a>, place: usize, holder: usize) -> 
         user: place,
         others: 0,
     }
+}
+
+/// Adds what is told of the lines of dates of the block at the place that aren't what they must be.
+fn add_lines_at<'a>(
+    alloc: Global,
+    templates: &Templates<'a>,
+    marks: &mut LineMarks,
+    must: Must,
+    place: usize,
+    tellings: &mut Vec<Telling<'a>>,
+) -> Result<(), AllocError>
+    requires { AreMarks templates.now marks.old }
+    ensures { OnOk result (AreMarks templates.now marks.new) }
+{
+    if place >= templates.blocks().len() {
+        return Ok(());
+    }
+    let lines = lines_at(alloc, templates, marks, place)?;
+    for line in lines.as_slice() {
+        if is_wrong_line(must, line) {
+            tellings.push(line_telling(must, *line, place))?;
+        }
+    }
+    Ok(())
 }
 
 /// Adds what is told of the lines of dates that aren't what they must be.
@@ -365,14 +392,8 @@ fn add_lines<'a>(
 ) -> Result<(), AllocError> {
     let mut marks = line_marks(alloc, templates)?;
     for misfit in misfits {
-        if misfit.row == number && misfit.place < templates.blocks().len() {
-            let lines = lines_at(alloc, templates, &mut marks, misfit.place)?;
-            for line in lines.as_slice() {
-                if is_wrong_line(must, line) {
-                    let telling = line_telling(must, *line, misfit.place, misfit.place);
-                    tellings.push(telling)?;
-                }
-            }
+        if misfit.row == number {
+            add_lines_at(alloc, templates, &mut marks, must, misfit.place, tellings)?;
         }
     }
     Ok(())
