@@ -64,7 +64,7 @@ pub fn begin(text: &mut Vec<u8>, sources: &[Source<'_>], line: u64) -> Result<()
 }
 
 /// Adds a block as a member.
-fn push_block(text: &mut Vec<u8>, name: &str, block: NamedBlock<'_>) -> Result<(), AllocError> {
+pub fn push_block(text: &mut Vec<u8>, name: &str, block: NamedBlock<'_>) -> Result<(), AllocError> {
     text.push(b',')?;
     push_string(text, name.as_bytes())?;
     push(text, ":{\"type\":")?;

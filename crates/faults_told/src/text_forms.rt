@@ -164,6 +164,17 @@ fn push_others(text: &mut Vec<u8>, others: usize) -> Result<(), AllocError> {
     push(text, if others == 1 { " other" } else { " others" })
 }
 
+/// Adds which block something stands in.
+pub fn push_holder(text: &mut Vec<u8>, block: &Block) -> Result<(), AllocError> {
+    push(text, "    in ")?;
+    push_block(text, named(block))
+}
+
+/// Adds the name of a directive, of a long one a front.
+pub fn push_name(text: &mut Vec<u8>, name: &[u8]) -> Result<(), AllocError> {
+    text.extend_from_slice(&name[..shown_end(name)])
+}
+
 /// Adds the second line of a fault: the block that holds the value, and which blocks have it from there.
 fn push_blocks(
     text: &mut Vec<u8>,
@@ -173,8 +184,7 @@ fn push_blocks(
     let Some(holder) = blocks.get(telling.holder) else {
         return Ok(());
     };
-    push(text, "    in ")?;
-    push_block(text, named(holder))?;
+    push_holder(text, holder)?;
     if telling.user != telling.holder {
         if let Some(user) = blocks.get(telling.user) {
             push(text, ", which ")?;
@@ -221,7 +231,7 @@ pub fn push_telling(
     push(text, telling.fault.name())?;
     if !telling.directive.is_empty() {
         push(text, ": ")?;
-        text.extend_from_slice(&telling.directive[..shown_end(telling.directive)])?;
+        push_name(text, telling.directive)?;
     }
     if !matches!(telling.detail, Detail::Unsaid) {
         push(text, ": ")?;
