@@ -3,11 +3,12 @@
 ghost use Rattle.std.specs.Prelude.{◌≡◌, codes, false, true, IfNone, IfOk, IfSome, is_some};
 ghost use Rattle.clap.specs.Matches.{found_of};
 ghost use Rattle.clap.specs.Words.{app_of, rule_of};
-ghost use Rattle.command_line.specs.Check.{CheckLacks, IsCheckOf, check_words, objects_option};
+ghost use Rattle.command_line.specs.Check.{CheckLacks, IsCheckOf, allow_option, check_words};
+ghost use Rattle.command_line.specs.Check.{objects_option, with_zone_options};
 ghost use Rattle.command_line.specs.Words.{AreSettingsFit, IsRequestOf, request_name};
 
-use crate::options::{flag_option, text_option};
-use crate::words::Request;
+use crate::options::{flag_option, text_option, zone_words};
+use crate::words::{Request, ZoneWords};
 use clap::{Arg, ArgAction, ArgMatches, Command};
 use std::alloc::{AllocError, Global};
 
@@ -20,17 +21,30 @@ finds any, in file order, where the other commands answer the first alone:
       in the block that holds the value, and which blocks have it from there
 
 A value that many blocks take from a template is told once, at the template. Several files
-are one text, one after another. The last line counts. Of lines that aren't blocks, of loops
-of periods and of dependencies, and of limits, the first fault alone is told.
+are one text, one after another. Of lines that aren't blocks, of loops of periods and of
+dependencies, and of limits, the first fault alone is told.
 
-The exit status is 1 where there is a fault.";
+Then it writes warnings, of what is legal and does nothing or tells nobody, each with its
+name: UnknownDirective, WithoutEffect, NobodyTold, NeverHours, DeadEscalation, NoCriteria,
+Overridden, NoZone, MissingOption. Where there is a fault, those of the blocks alone.
+
+  FILE:LINE: warning: NAME: directive: what it is about
+
+The last line counts. The exit status is 1 where there is a fault, and with --strict where
+there is a warning.";
 
 /// What is to be checked.
 #[derive(Clone, Copy, Debug, PartialEq, Eq)]
 pub struct CheckWords<'m, 'a> {
     /// The files of object text, in order.
     pub objects: &'m [&'a str],
-    /// Whether each fault is to be an object of JSON.
+    /// The names of the warnings that are left out, if any are named.
+    pub allowed: Option<&'m [&'a str]>,
+    /// Whether a warning makes the exit status 1 too.
+    pub strict: bool,
+    /// The zone of local times.
+    pub zone: ZoneWords<'a>,
+    /// Whether each fault and warning is to be an object of JSON.
     pub json: bool,
 }
 
@@ -49,15 +63,54 @@ fn objects_option<'a>(alloc: Global) -> Arg<'a>
     .required(true)
 }
 
+/// The option that names a warning that is left out, any number of times.
+fn allow_option<'a>(alloc: Global) -> Arg<'a>
+    ensures rule { rule_of result ≡ allow_option }
+    ensures local { result.global ≡ false }
+{
+    text_option(
+        alloc,
+        "allow",
+        "NAME",
+        "Leaves the warnings of this name out; may be given again",
+    )
+    .action(ArgAction::Append)
+}
+
+/// Adds the options that say what zone local times are of.
+fn with_zone_options<'a>(alloc: Global, command: Command<'a>) -> Result<Command<'a>, AllocError>
+    ensures words { IfOk result (λ command_with.
+        app_of command_with ≡ with_zone_options (app_of command.entry)) }
+{
+    let rule = text_option(
+        alloc,
+        "zone",
+        "RULE",
+        "The zone of local times, by its name, as Europe/Berlin, or by a POSIX rule, as EST5EDT,M3.2.0,M11.1.0",
+    );
+    let file = text_option(
+        alloc,
+        "zone-file",
+        "FILE",
+        "The zone of local times, by a zone file (TZif)",
+    );
+    command.arg(rule)?.arg(file)
+}
+
 /// The command `check` and its options.
 pub(crate) fn check_command<'a>(alloc: Global) -> Result<Command<'a>, AllocError>
     ensures words { IfOk result (λ command. app_of command ≡ check_words) }
 {
-    Command::new(alloc, "check")
-        .about("All faults of object text, each with its file, line, directive and value")
+    let strict = flag_option(alloc, "strict", "Makes the exit status 1 for a warning too");
+    let json = flag_option(alloc, "json", "Each fault and warning as a JSON object");
+    let command = Command::new(alloc, "check")
+        .about("All faults of object text, each with its file, line, directive and value; and warnings")
         .long_about(CHECK)
         .arg(objects_option(alloc))?
-        .arg(flag_option(alloc, "json", "Each fault as a JSON object"))
+        .arg(allow_option(alloc))?
+        .arg(strict)?
+        .arg(json)?;
+    with_zone_options(alloc, command)
 }
 
 /// What the options of `check` ask.
@@ -67,6 +120,9 @@ pub(crate) fn check_asked<'m, 'a>(options: &'m ArgMatches<'a>) -> Option<CheckWo
 {
     Some(CheckWords {
         objects: options.get_strs("objects")?,
+        allowed: options.get_strs("allow"),
+        strict: options.get_flag("strict"),
+        zone: zone_words(options),
         json: options.get_flag("json"),
     })
 }

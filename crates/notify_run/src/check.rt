@@ -1,14 +1,18 @@
-//! The command `check`: all faults of object text.
+//! The command `check`: all faults of object text, and its warnings.
 
+use crate::zones::{status_of_zone, zone_asked};
 use command_line::CheckWords;
 use command_output::{AnyWriter, CommandFault};
+use due_model::zone::Zone;
 use faults_told::located::Source;
 use object_faults::load_fault::LoadFault;
+use object_warnings::warning::ALL;
 use site_check::{Checked, Form, check};
 use std::alloc::AllocError;
 use std::fs::File;
 use std::io::Write;
 use std::process::ExitCode;
+use std::time::{Clock, SystemTime, UNIX_EPOCH};
 use text_lines::{AnyReader, LineReader, TextFault};
 
 /// The text of several files, one after another.
@@ -90,21 +94,64 @@ fn write_report<W: Write>(writer: &mut W, checked: &Checked) -> Result<(), Comma
     Ok(())
 }
 
-/// Checks the texts, writes the report, and says how many faults there are.
-fn check_texts(rt: &HostRuntime, texts: Texts<'_>, json: bool) -> Result<u64, CommandFault> {
+/// The moment of a clock, in seconds since the epoch; the epoch where it can't be told.
+fn moment_of<T: Clock>(clock: &T) -> u64 {
+    let Ok(now) = SystemTime::now(clock) else {
+        return 0;
+    };
+    match now.duration_since(UNIX_EPOCH) {
+        Ok(since) => since.as_secs(),
+        Err(_) => 0,
+    }
+}
+
+/// Checks the texts, writes the report, and says whether the check fails: there is a fault, or a warning where these count.
+fn check_texts(
+    rt: &HostRuntime,
+    texts: Texts<'_>,
+    zone: &Zone,
+    asked: CheckWords<'_, '_>,
+) -> Result<bool, CommandFault> {
     let form = Form {
         sources: texts.sources.as_slice(),
-        json,
+        json: asked.json,
+        allowed: asked.allowed.unwrap_or(&[]),
+        has_zone: asked.zone.rule.is_some() || asked.zone.file.is_some(),
+        zone,
+        moment: moment_of(rt),
     };
     let checked = check(rt.alloc(), form, texts.text)?;
     let mut writer = AnyWriter::new(rt.stdout());
     write_report(&mut writer, &checked)?;
-    Ok(checked.faults)
+    Ok(checked.faults > 0 || (asked.strict && checked.warnings > 0))
 }
 
-/// Checks object text, and gives the exit status: 1 where there is a fault.
+/// Whether a warning has the name.
+fn is_warning(name: &str) -> bool {
+    ALL.iter().any(|warning| warning.name() == name)
+}
+
+/// The first of the names that no warning has.
+fn unknown_warning<'a>(names: &[&'a str]) -> Option<&'a str> {
+    for name in names {
+        if !is_warning(*name) {
+            return Some(*name);
+        }
+    }
+    None
+}
+
+/// Checks object text, and gives the exit status: 1 where there is a fault, or a warning where these count.
 pub(crate) fn status_of_check(rt: &HostRuntime, asked: CheckWords<'_, '_>) -> ExitCode {
     let alloc = rt.alloc();
+    if let Some(name) = unknown_warning(asked.allowed.unwrap_or(&[])) {
+        let _ = rt.eprintln(format_args!("usage: no warning {name}"));
+        return ExitCode::from(2);
+    }
+    let zone = match zone_asked(rt, asked.zone) {
+        Ok(zone) => zone,
+        Err(fault) => return status_of_zone(rt, asked.zone, fault),
+    };
     let mut texts = Texts {
         text: Vec::new(alloc),
         sources: Vec::new(alloc),
@@ -116,9 +163,9 @@ pub(crate) fn status_of_check(rt: &HostRuntime, asked: CheckWords<'_, '_>) -> Ex
             return ExitCode::from(fault.status());
         }
     }
-    match check_texts(rt, texts, asked.json) {
-        Ok(0) => ExitCode::from(0),
-        Ok(_) => ExitCode::from(1),
+    match check_texts(rt, texts, &zone, asked) {
+        Ok(false) => ExitCode::from(0),
+        Ok(true) => ExitCode::from(1),
         Err(fault) => {
             say(rt, fault, "");
             ExitCode::from(fault.status())

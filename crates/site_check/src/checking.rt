@@ -1,15 +1,19 @@
-//! The check of object text: all faults of the first pass that finds any, told one after another.
+//! The check of object text: all faults of the first pass that finds any, told one after another, and then the warnings.
 
 ghost use Rattle.std.specs.Prelude.{◌≡◌, ◌<◌, length, true, IfOk, OnOk};
+ghost use Rattle.due_model.specs.Accepted.{IsAccepted};
 ghost use Rattle.due_model.specs.declared.config.Config.{Config};
 ghost use Rattle.object_resolve.specs.Text.{IsTextOf};
 
+use crate::ends::{push_end, push_some, words_of};
+use crate::warned_forms::{push_of_blocks, push_of_text};
 use due_model::config::Config;
-use faults_told::forms::{begin, push_count, push_json, push_member, push_string};
+use due_model::zone::Zone;
+use faults_told::forms::{begin, push_json, push_member};
 use faults_told::located::Source;
 use faults_told::telling::{Detail, Telling};
 use faults_told::template_faults::{add_near_templates, tell_templates};
-use faults_told::text_forms::{push, push_number, push_place, push_telling, push_value};
+use faults_told::text_forms::{push, push_place, push_telling, push_value};
 use faults_told::values_told::{add_near, tell_misfits};
 use object_check::marks::{name_misfits, value_misfits};
 use object_check::rows::{name_rows, value_rows};
@@ -30,6 +34,8 @@ pub struct Checked {
     pub report: Vec<u8>,
     /// How many faults are told.
     pub faults: u64,
+    /// How many warnings are told.
+    pub warnings: u64,
 }
 
 /// How a check tells what it finds.
@@ -37,87 +43,37 @@ pub struct Checked {
 pub struct Form<'a, 'b> {
     /// The files of which the text is made, in order.
     pub sources: &'b [Source<'a>],
-    /// Whether each fault is to be an object of JSON.
+    /// Whether each fault and warning is to be an object of JSON.
     pub json: bool,
+    /// The names of the warnings that are left out.
+    pub allowed: &'b [&'a str],
+    /// Whether a zone is given.
+    pub has_zone: bool,
+    /// The zone of local times.
+    pub zone: &'b Zone,
+    /// The moment from which on a period is to hold within 400 days, in seconds since the epoch.
+    pub moment: u64,
 }
 
-/// Adds how many of something there are.
-fn push_some(text: &mut Vec<u8>, number: usize, one: &str, more: &str) -> Result<(), AllocError> {
-    push_number(text, number as u64)?;
-    text.push(b' ')?;
-    push(text, if number == 1 { one } else { more })
-}
-
-/// Adds the last line: what was checked, of which these are the words, and how many faults there are.
-fn push_end(
-    text: &mut Vec<u8>,
+/// The report of a text without a fault: its warnings.
+fn sound(
+    alloc: Global,
     form: Form<'_, '_>,
-    checked: &[u8],
-    faults: u64,
-) -> Result<(), AllocError> {
-    if form.json {
-        push(text, "{\"checked\":")?;
-        push_string(text, checked)?;
-        push_count(text, "faults", faults)?;
-        push_count(text, "warnings", 0)?;
-        return push(text, "}\n");
-    }
-    push(text, "checked ")?;
-    text.extend_from_slice(checked)?;
-    push(text, ": ")?;
-    push_number(text, faults)?;
-    push(text, if faults == 1 { " fault, " } else { " faults, " })?;
-    push(text, "0 warnings\n")
-}
-
-/// How many hosts the configuration has.
-fn host_count(config: &Config) -> usize {
-    let mut count: usize = 0;
-    for object in config.objects.as_slice() {
-        if object.host.is_none() {
-            count = count.saturating_add(1);
-        }
-    }
-    count
-}
-
-/// What a configuration has, in words.
-fn words_of(alloc: Global, config: &Config) -> Result<Vec<u8>, AllocError> {
-    let mut words = Vec::new(alloc);
-    let hosts = host_count(config);
-    let services = config.objects.len().saturating_sub(hosts);
-    push_some(&mut words, hosts, "host", "hosts")?;
-    push(&mut words, ", ")?;
-    push_some(&mut words, services, "service", "services")?;
-    push(&mut words, ", ")?;
-    push_some(&mut words, config.contacts.len(), "contact", "contacts")?;
-    push(&mut words, ", ")?;
-    push_some(&mut words, config.periods.len(), "period", "periods")?;
-    push(&mut words, ", ")?;
-    push_some(
-        &mut words,
-        config.escalations.len(),
-        "escalation",
-        "escalations",
-    )?;
-    push(&mut words, ", ")?;
-    push_some(
-        &mut words,
-        config.dependencies.len(),
-        "dependency",
-        "dependencies",
-    )?;
-    Ok(words)
-}
-
-/// The report of a text without a fault.
-fn sound(alloc: Global, form: Form<'_, '_>, config: &Config) -> Result<Checked, AllocError>
+    text: &[u8],
+    config: &Config,
+) -> Result<Checked, AllocError>
+    requires { IsAccepted config.now }
     ensures { IfOk result (λ checked. checked.faults ≡ 0) }
 {
     let words = words_of(alloc, config)?;
     let mut report = Vec::new(alloc);
-    push_end(&mut report, form, words.as_slice(), 0)?;
-    Ok(Checked { report, faults: 0 })
+    let warnings = push_of_text(alloc, &mut report, form, text, config)?;
+    push_end(&mut report, form, words.as_slice(), 0, warnings)?;
+    Ok(Checked {
+        report,
+        faults: 0,
+        warnings,
+    })
 }
 
 /// The line of that number, from 1; empty where there are fewer.
@@ -191,8 +147,12 @@ fn unread(
 {
     let mut report = Vec::new(alloc);
     push_line_fault(&mut report, form, line_at(text, number), number, fault)?;
-    push_end(&mut report, form, b"no blocks", 1)?;
-    Ok(Checked { report, faults: 1 })
+    push_end(&mut report, form, b"no blocks", 1, 0)?;
+    Ok(Checked {
+        report,
+        faults: 1,
+        warnings: 0,
+    })
 }
 
 /// The report of a text that is too large.
@@ -208,8 +168,12 @@ fn too_large(alloc: Global, form: Form<'_, '_>) -> Result<Checked, AllocError>
             "TooLarge\n"
         },
     )?;
-    push_end(&mut report, form, b"no blocks", 1)?;
-    Ok(Checked { report, faults: 1 })
+    push_end(&mut report, form, b"no blocks", 1, 0)?;
+    Ok(Checked {
+        report,
+        faults: 1,
+        warnings: 0,
+    })
 }
 
 /// Whether the block of the fault is among those that have a told fault, and the fault is that one.
@@ -381,11 +345,16 @@ fn refused(
             push_telling(&mut report, form.sources, blocks, telling)?;
         }
     }
+    let warnings = push_of_blocks(alloc, &mut report, form, blocks)?;
     let mut words = Vec::new(alloc);
     push_some(&mut words, blocks.len(), "block", "blocks")?;
     let faults = tellings.len() as u64;
-    push_end(&mut report, form, words.as_slice(), faults)?;
-    Ok(Checked { report, faults })
+    push_end(&mut report, form, words.as_slice(), faults, warnings)?;
+    Ok(Checked {
+        report,
+        faults,
+        warnings,
+    })
 }
 
 /// The report of a text that loading has refused for a block.
@@ -404,8 +373,9 @@ fn refused_text(
     }
 }
 
-/// Checks object text: tells all faults of the first pass that finds any, or that there is none. Of lines that aren't blocks, of
-/// loops of periods and of dependencies, and of limits, the first alone is told.
+/// Checks object text: tells all faults of the first pass that finds any, or that there is none, and then the warnings: of a text
+/// with a fault those of its blocks alone. Of lines that aren't blocks, of loops of periods and of dependencies, and of limits,
+/// the first alone is told.
 pub fn check(alloc: Global, form: Form<'_, '_>, text: Vec<u8>) -> Result<Checked, AllocError>
     // A text of which no fault is told has a configuration.
     ensures sound { IfOk result (λ checked. checked.faults ≡ 0
@@ -416,7 +386,7 @@ pub fn check(alloc: Global, form: Form<'_, '_>, text: Vec<u8>) -> Result<Checked
 {
     let kept = Vec::from_slice(alloc, text.as_slice())?;
     match load(alloc, text) {
-        Ok(config) => sound(alloc, form, &config),
+        Ok(config) => sound(alloc, form, kept.as_slice(), &config),
         Err(LoadFault::NoMemory) => Err(AllocError),
         Err(LoadFault::TooLarge) => too_large(alloc, form),
         Err(LoadFault::Line { line, fault }) => unread(alloc, form, kept.as_slice(), line, fault),

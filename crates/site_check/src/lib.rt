@@ -1,7 +1,11 @@
-//! The check of object text: all faults of the first pass that finds any, told one after another.
+//! The check of object text: all faults of the first pass that finds any, told one after another, and the warnings.
 #![tactic(auto)]
 
 mod checking;
+mod ends;
+mod origins;
+mod warned;
+mod warned_forms;
 
 pub use checking::{Checked, Form, check};
 

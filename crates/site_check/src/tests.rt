@@ -1,4 +1,5 @@
 use crate::{Form, check};
+use due_model::zone::Zone;
 use faults_told::located::Source;
 use std::alloc::AllocError;
 
@@ -36,6 +37,10 @@ fn a_value_of_a_template_is_told_once(rt: HostRuntime) -> Result<(), AllocError>
     let form = Form {
         sources: &sources,
         json: false,
+        allowed: &["NobodyTold"],
+        has_zone: false,
+        zone: &Zone::Utc,
+        moment: 0,
     };
     let checked = check(alloc, form, text)?;
     assert!(rt; checked.faults == 1);

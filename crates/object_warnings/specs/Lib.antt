@@ -1,0 +1,7 @@
+pub mod Numbers
+pub mod Objects
+pub mod Escalations
+pub mod Periods
+pub mod Tables
+pub mod Directives
+pub mod Criteria
