@@ -1,4 +1,4 @@
 pub mod NumberLemmas
 pub mod LineLemmas
-pub mod PeriodLemmas
 pub mod TableLemmas
+pub mod PeriodLemmas

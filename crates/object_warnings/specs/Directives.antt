@@ -1,5 +1,5 @@
 -- Directives that do nothing (chapter "Object Definitions").
-use Rattle.std.specs.Prelude.{ℕ, Bool, false, not, ◌==◌, ◌&&◌, ◌||◌, List, [], length, map, find, slice_get}
+use Rattle.std.specs.Prelude.{ℕ, Bool, false, not, ◌==◌, ◌&&◌, ◌||◌, List, [], ◌∷◌, length, map, slice_get}
 use Rattle.std.specs.List.{before_first, flat_map, list_any, range_with_len}
 use Rattle.std.specs.Option.{option_map_or}
 use Rattle.std.specs.Str.{bytes_eq}
@@ -74,23 +74,3 @@ lines_where has blocks = lines_below has blocks (length blocks)
 -- the numbers of the names that stand for the first time
 abbrev pub firsts : List (List ℕ) → List ℕ
 firsts names = numbers_where (λ number. not (is_doubled names number)) (length names)
-
--- ---- Overridden: a directive given twice in a block, by other values
-
--- whether the first directive of its name has another value
-abbrev pub is_other : List Directive → Directive → Bool
-is_other directives directive = option_map_or (λ first. not (bytes_eq first.value directive.value))
-    (find (λ other. bytes_eq directive.name other.name) directives) false
-
--- the directives of the block at the place, and their names
-abbrev pub directives_at : List Block → (place : ℕ) → List Directive
-directives_at blocks place = option_map_or (λ block. block.directives) (slice_get blocks place) []
-
-abbrev pub names_at : List Block → (place : ℕ) → List (List ℕ)
-names_at blocks place = map (λ directive. directive.name) (directives_at blocks place)
-
--- the same of the directive of that number in the block at the place
-abbrev pub is_other_at : List Block → (place number : ℕ) → Bool
-is_other_at blocks place number = option_map_or
-    (λ block. option_map_or (is_other block.directives) (slice_get block.directives number) false)
-    (slice_get blocks place) false

@@ -1,5 +1,5 @@
 //! What object text says that is legal and does nothing, or tells nobody (chapters "Object Definitions", "Notifications",
-//! "Notification Escalations", "Time Periods" and "Host and Service Dependencies").
+//! "Notification Escalations" and "Host and Service Dependencies").
 #![tactic(auto)]
 
 pub mod criteria;

@@ -1,9 +1,8 @@
 //! Directives that are given twice in a block, by other values (chapter "Object Definitions").
 
-ghost use Rattle.std.specs.Prelude.{◌≡◌, ◌++◌, map, IfOk, OnOk};
-ghost use Rattle.object_values.specs.Values.{texts};
-ghost use Rattle.object_warnings.specs.Directives.{directives_at, is_other, is_other_at};
-ghost use Rattle.object_warnings.specs.Directives.{lines_at, lines_where, names_at};
+ghost use Rattle.std.specs.Prelude.{◌≡◌, ◌++◌, IfOk, OnOk};
+ghost use Rattle.object_warnings.specs.Directives.{lines_at, lines_where};
+ghost use Rattle.object_warnings.specs.Overridden.{differs, directives_at, is_other, is_other_at, names_of};
 
 use crate::lines::{Line, directive_count, push_line};
 use object_groups::names::Names;
@@ -12,7 +11,7 @@ use std::alloc::{AllocError, Global};
 
 /// The names of the directives, in order.
 fn names_of<'a>(alloc: Global, directives: &'a [Directive]) -> Result<Names<'a>, AllocError>
-    ensures { IfOk result (λ names. names ≡ map (λ directive. directive.name) directives.now) }
+    ensures { IfOk result (λ names. names ≡ names_of directives.now) }
 {
     let mut names = Vec::with_capacity(alloc, directives.len())?;
     for directive in directives {
@@ -21,23 +20,30 @@ fn names_of<'a>(alloc: Global, directives: &'a [Directive]) -> Result<Names<'a>,
     Names::new(alloc, names)
 }
 
+/// Whether the directive has another value than the other.
+fn differs(directive: &Directive, other: &Directive) -> bool
+    ensures { result ≡ differs directive.now other.now }
+{
+    !(other.value.as_slice() == directive.value.as_slice())
+}
+
 /// Whether the first directive of the name has another value than this one. The names are those of the directives.
 fn is_other<'a>(names: &Names<'a>, directives: &'a [Directive], directive: &'a Directive) -> bool
-    requires { names.now ≡ map (λ directive. directive.name) directives.now }
+    requires { names.now ≡ names_of directives.now }
     ensures { result ≡ is_other directives.now directive.now }
 {
     match names.find(directive.name.as_slice()) {
         None => false,
         Some(first) => match directives.get(first) {
             None => false,
-            Some(other) => other.value.as_slice() != directive.value.as_slice(),
+            Some(other) => differs(directive, other),
         },
     }
 }
 
 /// The same of the directive of that number in the block at the place.
 fn is_other_at<'a>(names: &Names<'a>, blocks: &'a [Block], place: usize, number: usize) -> bool
-    requires { names.now ≡ names_at blocks.now place }
+    requires { names.now ≡ names_of (directives_at blocks.now place) }
     ensures { result ≡ is_other_at blocks.now place number }
 {
     match blocks.get(place) {

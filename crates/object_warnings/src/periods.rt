@@ -1,6 +1,7 @@
 //! Time periods that never hold, and those for which the zone counts (chapter "Time Periods").
 
 ghost use Rattle.std.specs.Prelude.{◌≡◌, ◌≤◌, ◌<◌, length, IfOk};
+ghost use Rattle.std.specs.List.{list_all};
 ghost use Rattle.due_model.specs.Limits.{last_moment};
 ghost use Rattle.due_model.specs.declared.config.Config.{Config};
 ghost use Rattle.object_warnings.specs.Numbers.{numbers_where};
@@ -11,6 +12,7 @@ ghost use Rattle.time_period.specs.Days.{AreCompiled};
 use crate::numbers::push_where;
 use due_model::config::{Config, Period, Range};
 use due_model::limits::DAY;
+use due_model::sequence::Sequence;
 use std::alloc::{AllocError, Global};
 use time_period::compiled::Compiled;
 use zone_times::clock::ZoneClock;
@@ -24,15 +26,18 @@ fn has_whole_day(ranges: &[Range]) -> bool
         .any(|range| range.start == 0 && range.end == DAY)
 }
 
+/// Whether each of the days has.
+fn have_whole_days(days: &[Sequence<Range>]) -> bool
+    ensures { result ≡ list_all has_whole_day days.now }
+{
+    days.iter().all(|ranges| has_whole_day(ranges.as_slice()))
+}
+
 /// Whether each weekday has a range of the whole day, and neither a dated line nor an exclusion takes anything out.
 fn is_always(period: &Period) -> bool
     ensures { result ≡ is_always period.now }
 {
-    let is_whole = period
-        .days
-        .iter()
-        .all(|ranges| has_whole_day(ranges.as_slice()));
-    is_whole && period.dated.len() == 0 && period.excludes.len() == 0
+    have_whole_days(&period.days) && period.dated.len() == 0 && period.excludes.len() == 0
 }
 
 /// Whether the period of that number isn't always.
@@ -65,7 +70,10 @@ fn never_holds(periods: &[Compiled], zone: &ZoneClock<'_>, t: u64, number: usize
     requires within { number < length periods.now }
     ensures { (c : Config) → AreCompiled c periods.now → result ≡ never_holds c zone.now t number }
 {
-    periods[number].next(zone, t).is_none()
+    match periods[number].next(zone, t) {
+        None => true,
+        Some(_) => false,
+    }
 }
 
 /// The numbers of the periods that never hold within 400 days from the moment on (NeverHours). They are the configuration's,

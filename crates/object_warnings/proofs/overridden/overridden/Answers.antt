@@ -1,4 +1,4 @@
-use Rattle.object_warnings.specs.Directives.{is_other_at}
+use Rattle.object_warnings.specs.Overridden.{is_other_at}
 use Rattle.object_warnings.proofs.LineLemmas.{blocks-more}
 use Rattle.object_warnings.proofs.overridden.overridden.Goals as goal
 

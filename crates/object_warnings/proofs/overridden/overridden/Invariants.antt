@@ -1,5 +1,6 @@
 use Rattle.std.proofs.Common.{◌≡◌}
-use Rattle.object_warnings.specs.Directives.{lines_below, is_other_at}
+use Rattle.object_warnings.specs.Directives.{lines_below}
+use Rattle.object_warnings.specs.Overridden.{is_other_at}
 use Rattle.object_warnings.proofs.overridden.overridden.Given as goal
 
 -- The lines of the blocks so far.

@@ -1,5 +1,5 @@
 use Rattle.std.proofs.Common.{◌≡◌, ◌++◌}
-use Rattle.object_warnings.specs.Directives.{is_other_at}
+use Rattle.object_warnings.specs.Overridden.{is_other_at}
 use Rattle.object_warnings.proofs.LineLemmas.{lines_of}
 use Rattle.object_warnings.proofs.overridden.push_others.Given as goal
 
