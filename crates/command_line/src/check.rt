@@ -104,7 +104,9 @@ pub(crate) fn check_command<'a>(alloc: Global) -> Result<Command<'a>, AllocError
     let strict = flag_option(alloc, "strict", "Makes the exit status 1 for a warning too");
     let json = flag_option(alloc, "json", "Each fault and warning as a JSON object");
     let command = Command::new(alloc, "check")
-        .about("All faults of object text, each with its file, line, directive and value; and warnings")
+        .about(
+            "All faults of object text, each with its file, line, directive and value; and warnings",
+        )
         .long_about(CHECK)
         .arg(objects_option(alloc))?
         .arg(allow_option(alloc))?

@@ -77,7 +77,12 @@ fn push_others(
 {
     let names = names_of(alloc, directives_at(blocks, place))?;
     for number in 0..directive_count(blocks, place) {
-        push_line(found, place, number, is_other_at(&names, blocks, place, number))?;
+        push_line(
+            found,
+            place,
+            number,
+            is_other_at(&names, blocks, place, number),
+        )?;
     }
     Ok(())
 }

@@ -7,7 +7,12 @@ use faults_told::text_forms::{push, push_number};
 use std::alloc::{AllocError, Global};
 
 /// Adds how many of something there are.
-pub(crate) fn push_some(text: &mut Vec<u8>, number: usize, one: &str, more: &str) -> Result<(), AllocError> {
+pub(crate) fn push_some(
+    text: &mut Vec<u8>,
+    number: usize,
+    one: &str,
+    more: &str,
+) -> Result<(), AllocError> {
     push_counted(text, number as u64, one, more)
 }
 

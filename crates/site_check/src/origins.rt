@@ -9,7 +9,10 @@ use object_services::services::ServiceHosts;
 use std::alloc::{AllocError, Global};
 
 /// The places of the blocks that give the hosts, and then the services, in number order.
-pub(crate) fn object_places(alloc: Global, templates: &Templates<'_>) -> Result<Vec<usize>, AllocError> {
+pub(crate) fn object_places(
+    alloc: Global,
+    templates: &Templates<'_>,
+) -> Result<Vec<usize>, AllocError> {
     let hosts = Objects::new(alloc, templates, BlockKind::Host)?;
     let services = ServiceBlocks::new(alloc, templates)?;
     let mut groups = Groups::new(alloc, templates, GroupKind::HostGroups)?;
@@ -26,7 +29,10 @@ pub(crate) fn object_places(alloc: Global, templates: &Templates<'_>) -> Result<
 }
 
 /// The places of the blocks that give the periods, in number order.
-pub(crate) fn period_places(alloc: Global, templates: &Templates<'_>) -> Result<Vec<usize>, AllocError> {
+pub(crate) fn period_places(
+    alloc: Global,
+    templates: &Templates<'_>,
+) -> Result<Vec<usize>, AllocError> {
     let periods = Objects::new(alloc, templates, BlockKind::TimePeriod)?;
     Vec::from_slice(alloc, periods.places())
 }

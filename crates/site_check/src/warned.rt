@@ -82,7 +82,11 @@ fn push_texts<'a>(names: &mut Vec<&'a [u8]>, texts: &[&'a str]) -> Result<(), Al
 }
 
 /// The directive of blocks of the type that is most like the name.
-fn near_directive<'a>(alloc: Global, kind: BlockKind, name: &[u8]) -> Result<Option<&'a [u8]>, AllocError> {
+fn near_directive<'a>(
+    alloc: Global,
+    kind: BlockKind,
+    name: &[u8],
+) -> Result<Option<&'a [u8]>, AllocError> {
     let mut names = Vec::new(alloc);
     push_texts(&mut names, read_here(kind))?;
     push_texts(&mut names, passed_over(kind))?;
@@ -90,10 +94,17 @@ fn near_directive<'a>(alloc: Global, kind: BlockKind, name: &[u8]) -> Result<Opt
 }
 
 /// Adds what is told of directives that no type of Nagios has.
-fn add_unknown<'a>(alloc: Global, blocks: &'a [Block], warned: &mut Vec<Warned<'a>>) -> Result<(), AllocError> {
+fn add_unknown<'a>(
+    alloc: Global,
+    blocks: &'a [Block],
+    warned: &mut Vec<Warned<'a>>,
+) -> Result<(), AllocError> {
     let lines = lines_where(alloc, Test::Unknown, blocks)?;
     for (number, line) in lines.as_slice().iter().enumerate() {
-        if let (Some(block), Some(directive)) = (blocks.get(line.place), directive_of(blocks, *line)) {
+        if let (Some(block), Some(directive)) = (
+            blocks.get(line.place),
+            directive_of(blocks, *line),
+        ) {
             let mut one = about_line(Warning::UnknownDirective, line.place, directive);
             if number < MOST_NEAR {
                 one.near = near_directive(alloc, block.kind, directive.name.as_slice())?;
@@ -116,7 +127,11 @@ fn count_of(names: &Names<'_>, name: &[u8]) -> usize {
 }
 
 /// The names of the directives that the lines are.
-fn names_of<'a>(alloc: Global, blocks: &'a [Block], lines: &[Line]) -> Result<Names<'a>, AllocError> {
+fn names_of<'a>(
+    alloc: Global,
+    blocks: &'a [Block],
+    lines: &[Line],
+) -> Result<Names<'a>, AllocError> {
     let mut names: Vec<&'a [u8]> = Vec::new(alloc);
     for line in lines {
         let name = match directive_of(blocks, *line) {
@@ -129,7 +144,11 @@ fn names_of<'a>(alloc: Global, blocks: &'a [Block], lines: &[Line]) -> Result<Na
 }
 
 /// Adds what is told of directives that have no effect here: of each the first, and how many there are.
-fn add_passed_over<'a>(alloc: Global, blocks: &'a [Block], warned: &mut Vec<Warned<'a>>) -> Result<(), AllocError> {
+fn add_passed_over<'a>(
+    alloc: Global,
+    blocks: &'a [Block],
+    warned: &mut Vec<Warned<'a>>,
+) -> Result<(), AllocError> {
     let lines = lines_where(alloc, Test::PassedOver, blocks)?;
     let names = names_of(alloc, blocks, lines.as_slice())?;
     for number in firsts(alloc, &names)?.as_slice() {
@@ -149,7 +168,11 @@ fn add_passed_over<'a>(alloc: Global, blocks: &'a [Block], warned: &mut Vec<Warn
 }
 
 /// Adds what is told of directives that are given twice.
-fn add_overridden<'a>(alloc: Global, blocks: &'a [Block], warned: &mut Vec<Warned<'a>>) -> Result<(), AllocError> {
+fn add_overridden<'a>(
+    alloc: Global,
+    blocks: &'a [Block],
+    warned: &mut Vec<Warned<'a>>,
+) -> Result<(), AllocError> {
     for line in overridden(alloc, blocks)?.as_slice() {
         if let Some(directive) = directive_of(blocks, *line) {
             warned.push(about_line(Warning::Overridden, line.place, directive))?;
@@ -188,7 +211,11 @@ fn add_numbers<'a>(
 }
 
 /// Adds what is told of blocks.
-pub(crate) fn add_of_blocks<'a>(alloc: Global, blocks: &'a [Block], warned: &mut Vec<Warned<'a>>) -> Result<(), AllocError> {
+pub(crate) fn add_of_blocks<'a>(
+    alloc: Global,
+    blocks: &'a [Block],
+    warned: &mut Vec<Warned<'a>>,
+) -> Result<(), AllocError> {
     add_unknown(alloc, blocks, warned)?;
     add_passed_over(alloc, blocks, warned)?;
     add_overridden(alloc, blocks, warned)
@@ -232,10 +259,22 @@ fn add_of_objects<'a>(
 {
     let places = object_places(alloc, templates)?;
     let silent = untold(alloc, config)?;
-    add_numbers(Warning::NobodyTold, "", silent.as_slice(), places.as_slice(), warned)?;
+    add_numbers(
+        Warning::NobodyTold,
+        "",
+        silent.as_slice(),
+        places.as_slice(),
+        warned,
+    )?;
     let lacking = without_problems(alloc, config)?;
     let directive = "notification_options";
-    add_numbers(Warning::MissingOption, directive, lacking.as_slice(), places.as_slice(), warned)?;
+    add_numbers(
+        Warning::MissingOption,
+        directive,
+        lacking.as_slice(),
+        places.as_slice(),
+        warned,
+    )?;
     add_dead(alloc, config, places.as_slice(), warned)
 }
 
@@ -256,8 +295,19 @@ fn add_of_periods<'a>(
     }
     let compiled = compile_all(alloc, config)?;
     let clock = ZoneClock::new(form.zone);
-    let empty = never(alloc, compiled.as_slice(), &clock, form.moment.min(LAST_MOMENT))?;
-    add_numbers(Warning::NeverHours, "", empty.as_slice(), places.as_slice(), warned)
+    let empty = never(
+        alloc,
+        compiled.as_slice(),
+        &clock,
+        form.moment.min(LAST_MOMENT),
+    )?;
+    add_numbers(
+        Warning::NeverHours,
+        "",
+        empty.as_slice(),
+        places.as_slice(),
+        warned,
+    )
 }
 
 /// Adds what is told of a configuration.

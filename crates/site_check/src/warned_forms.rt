@@ -39,7 +39,10 @@ fn push_reason(text: &mut Vec<u8>, block: &Block, warned: &Warned<'_>) -> Result
             push_value(text, warned.value)?;
             push(text, " is given beside another value")
         }
-        Warning::NoZone => push(text, "isn't always, and no zone is given: its hours are UTC"),
+        Warning::NoZone => push(
+            text,
+            "isn't always, and no zone is given: its hours are UTC",
+        ),
         Warning::MissingOption => push(text, "no letter of a problem"),
     }
 }
