@@ -1,0 +1,6 @@
+pub mod Numbers
+pub mod Objects
+pub mod Escalations
+pub mod Tables
+pub mod Directives
+pub mod Criteria
