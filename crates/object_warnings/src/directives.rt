@@ -74,10 +74,7 @@ fn is_passed_over(kind: BlockKind, name: &[u8]) -> bool
 fn is_known(kind: BlockKind, name: &[u8]) -> bool
     ensures { result ≡ is_known kind name.now }
 {
-    is_read(kind, name)
-        || is_passed_over(kind, name)
-        || is_custom(name)
-        || is_of_days(kind, name)
+    is_read(kind, name) || is_passed_over(kind, name) || is_custom(name) || is_of_days(kind, name)
 }
 
 /// Whether the directive of a block of the type passes.

@@ -52,12 +52,7 @@ const HOST: [&str; 44] = [
     "3d_coords",
 ];
 
-const HOST_GROUP: [&str; 4] = [
-    "alias",
-    "notes",
-    "notes_url",
-    "action_url",
-];
+const HOST_GROUP: [&str; 4] = ["alias", "notes", "notes_url", "action_url"];
 
 const SERVICE: [&str; 42] = [
     "display_name",
@@ -104,12 +99,7 @@ const SERVICE: [&str; 42] = [
     "icon_image_alt",
 ];
 
-const SERVICE_GROUP: [&str; 4] = [
-    "alias",
-    "notes",
-    "notes_url",
-    "action_url",
-];
+const SERVICE_GROUP: [&str; 4] = ["alias", "notes", "notes_url", "action_url"];
 
 const CONTACT: [&str; 15] = [
     "alias",
@@ -129,23 +119,13 @@ const CONTACT: [&str; 15] = [
     "minimum_value",
 ];
 
-const CONTACT_GROUP: [&str; 1] = [
-    "alias",
-];
+const CONTACT_GROUP: [&str; 1] = ["alias"];
 
-const TIME_PERIOD: [&str; 1] = [
-    "alias",
-];
+const TIME_PERIOD: [&str; 1] = ["alias"];
 
-const COMMAND: [&str; 1] = [
-    "command_line",
-];
+const COMMAND: [&str; 1] = ["command_line"];
 
-const HOST_ESCALATION: [&str; 3] = [
-    "host",
-    "hostgroup",
-    "hostgroups",
-];
+const HOST_ESCALATION: [&str; 3] = ["host", "hostgroup", "hostgroups"];
 
 const SERVICE_ESCALATION: [&str; 6] = [
     "host",

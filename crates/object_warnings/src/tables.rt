@@ -81,20 +81,9 @@ const CONTACT_GROUP: [&str; 6] = [
     "contactgroup_members",
 ];
 
-const TIME_PERIOD: [&str; 5] = [
-    "name",
-    "use",
-    "register",
-    "timeperiod_name",
-    "exclude",
-];
+const TIME_PERIOD: [&str; 5] = ["name", "use", "register", "timeperiod_name", "exclude"];
 
-const COMMAND: [&str; 4] = [
-    "name",
-    "use",
-    "register",
-    "command_name",
-];
+const COMMAND: [&str; 4] = ["name", "use", "register", "command_name"];
 
 const HOST_ESCALATION: [&str; 12] = [
     "name",
@@ -158,17 +147,9 @@ const SERVICE_DEPENDENCY: [&str; 14] = [
     "dependency_period",
 ];
 
-const HOST_EXT_INFO: [&str; 3] = [
-    "name",
-    "use",
-    "register",
-];
+const HOST_EXT_INFO: [&str; 3] = ["name", "use", "register"];
 
-const SERVICE_EXT_INFO: [&str; 3] = [
-    "name",
-    "use",
-    "register",
-];
+const SERVICE_EXT_INFO: [&str; 3] = ["name", "use", "register"];
 
 /// The directives of blocks of the type that are read here. Lines of days aren't among them.
 pub fn read_here(kind: BlockKind) -> &'static [&'static str]
