@@ -1,5 +1,5 @@
 -- What holds of the notices that are due and of the suppressions, whatever the configuration and the events.
-use Rattle.std.specs.Prelude.{◌≡◌, ◌≢◌, ℕ, ◌+◌, ◌-◌, ◌<◌, ◌≤◌, ◌⊎◌, true, false, List, ◌++◌, length, drop, reverse, slice_get, filter_map, All, AllPairs, Option, None, Some, if◌then◌else◌}
+use Rattle.std.specs.Prelude.{◌≡◌, ◌≢◌, ℕ, ◌+◌, ◌-◌, ◌<◌, ◌≤◌, ◌⊎◌, ◌&&◌, true, false, List, ◌++◌, length, drop, reverse, slice_get, filter_map, All, AllPairs, Option, None, Some, if◌then◌else◌}
 use Rattle.std.specs.List.{range_with_len}
 use Rattle.std.specs.Option.{ForSome}
 use Rattle.due_model.specs.declared.config.Config.{Config}
@@ -91,7 +91,8 @@ RecoveriesFollowNotices = (c : Config) (zone : Zone) (o l : ℕ) (object : Objec
 -- the number of an outcome that is a problem notice
 abbrev pub notice_number : Outcome → Option ℕ
 notice_number Nothing = None
-notice_number (Sent k state number moment gap) = if is_problem k then Some number else None
+notice_number (Sent k state number moment gap reach) =
+    if is_problem k && reach.heard then Some number else None
 notice_number (Suppressed k state number moment why) = None
 
 -- The problem notices of one problem are numbered 1, 2, 3 and so on (chapter "Notification Escalations").
@@ -100,11 +101,17 @@ NumbersGoUpByOne = (c : Config) (zone : Zone) (o : ℕ) (object : Object) (past 
     → filter_map notice_number (reverse (last_problem c zone o object past))
     ≡ range_with_len 1 (notices_sent (last_problem c zone o object past))
 
+-- nothing ends a wait but its gap
+pub record WaitsAreOwn (c : Config) : Type 0 where
+  pub no_reset : c.choices.reset_wait ≡ false
+  pub no_period : c.choices.period_wait ≡ false
+  pub no_downtime : c.choices.downtime_wait ≡ false
+
 -- Of two problem notices of one problem in a row that report the same state, the second comes no sooner than the gap of the
--- first after it, and never where that gap is 0 (chapter "Notifications").
+-- first after it, and never where that gap is 0 (chapter "Notifications"), unless the daemon's rules end waits.
 abbrev pub NoticesKeepTheirGaps : Type 0
-NoticesKeepTheirGaps = (c : Config) (zone : Zone) (o : ℕ) (object : Object) (past : List Event)
-    (i : ℕ) (earlier later : Last)
+NoticesKeepTheirGaps = (c : Config) → WaitsAreOwn c → (zone : Zone) (o : ℕ) (object : Object)
+    (past : List Event) (i : ℕ) (earlier later : Last)
     → slice_get (filter_map notice_of (last_problem c zone o object past)) i ≡ Some later
     → slice_get (filter_map notice_of (last_problem c zone o object past)) (i + 1) ≡ Some earlier
     → earlier.state ≡ later.state

@@ -12,7 +12,7 @@ use Rattle.due_model.specs.declared.state.State.{State}
 use Rattle.due_model.specs.declared.state.State.TheVariants as state
 use Rattle.due_model.specs.declared.zone.Zone.{Zone}
 use Rattle.due_model.specs.Acknowledgements.{is_ok_of}
-use Rattle.due_model.specs.Histories.{of_problem, notices_sent, last_notice, ready, retry_after}
+use Rattle.due_model.specs.Histories.{of_problem, notices_sent, last_notice, ready, retry_after, after_notice}
 use Rattle.due_model.specs.Readings.{moment, program_on, hard, flapping, down, began, is_problem_of, is_problem_state}
 use Rattle.due_model.specs.Rules.{is_problem, next_notice}
 
@@ -27,13 +27,13 @@ MomentIsGreatestStamp = (feed : List Event) → IsGreatestStamp feed (moment (re
 -- an outcome of an attempt as a problem
 abbrev pub tries_problem : Outcome → Bool
 tries_problem Nothing = false
-tries_problem (Sent k s number m gap) = is_problem k
+tries_problem (Sent k s number m gap reach) = is_problem k
 tries_problem (Suppressed k s number m why) = is_problem k
 
 -- when the clock attempts a problem again after this outcome, which followed those
 abbrev pub ready_after : Config → Zone → Object → (began : ℕ) → List Outcome → Outcome → Option ℕ
 ready_after c zone object began front Nothing = None
-ready_after c zone object began front (Sent k s number m gap) = next_notice m gap
+ready_after c zone object began front (Sent k s number m gap reach) = after_notice m gap reach
 ready_after c zone object began front (Suppressed k s number m why) = retry_after c zone object
     began (last_notice (reverse front)) m why
 

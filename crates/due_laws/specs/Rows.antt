@@ -23,6 +23,7 @@ use Rattle.due_model.specs.declared.state.State.{State}
 use Rattle.due_model.specs.declared.state.State.TheVariants as state
 use Rattle.due_model.specs.declared.state.StateSet.{StateSet}
 use Rattle.due_model.specs.declared.zone.Zone.TheVariants.{Utc}
+use Rattle.due_model.specs.Choices.{own}
 use Rattle.due_model.specs.Due.{due, sup}
 use Rattle.due_model.specs.Options.{every_letter}
 use Rattle.due_model.specs.Periods.{in_period, next_in}
@@ -60,6 +61,7 @@ service name = record web { name = name; host = Some (record { 0 = 0 }) }
 -- the host web, the contact ann, the command mail
 abbrev pub base : Config
 base = record {
+  choices = own;
   objects = web ∷ [];
   contacts = by_mail (codes "ann") ∷ [];
   lanes = record { name = codes "mail" } ∷ [];

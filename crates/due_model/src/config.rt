@@ -176,9 +176,38 @@ pub struct Dependency {
     pub period: Option<PeriodId>,
 }
 
+/// Whose rule decides where this project's and the daemon's (Nagios Core 4.4.6) differ: false is this project's own, true
+/// the daemon's.
+#[derive(Clone, Copy, Debug, PartialEq, Eq)]
+pub struct Choices {
+    /// A service whose host isn't UP is told of no problem and no recovery.
+    pub host_down: bool,
+    /// A service's result, a problem as before, attempts the problem of its host again.
+    pub host_repeats: bool,
+    /// A service is held back by the dependencies of its host too.
+    pub host_dep: bool,
+    /// A notice that reaches no contact doesn't count.
+    pub nobody: bool,
+    /// A service's recovery goes to contacts alone one of whose letters is that of a state told in the problem.
+    pub told: bool,
+    /// A change of the hard state ends the wait after a notice.
+    pub reset_wait: bool,
+    /// The first delay runs from the last change of the hard state.
+    pub delay: bool,
+    /// An attempt outside the period ends the wait after a notice.
+    pub period_wait: bool,
+    /// An attempt that is stopped while a service of interval 0 is in downtime ends the wait after a notice.
+    pub downtime_wait: bool,
+    /// Flapping and downtimes are escalated too.
+    pub esc_other: bool,
+    /// Attempts come with the results of an object alone: the clock makes none.
+    pub at_results: bool,
+}
+
 /// All that the object text gives.
 #[derive(Drop)]
 pub struct Config {
+    pub choices: Choices,
     pub objects: Objects,
     pub contacts: Sequence<Contact>,
     pub lanes: Sequence<Lane>,

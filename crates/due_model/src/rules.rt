@@ -6,7 +6,7 @@ ghost use Rattle.due_model.specs.Readings.{depth_changed, is_problem_of};
 ghost use Rattle.due_model.specs.Acknowledgements.{ack_after, kept_in_state};
 ghost use Rattle.due_model.specs.Rules.{attempted, attempted_by_state, attempted_by_downtime};
 ghost use Rattle.due_model.specs.Rules.{attempted_by_flapping, downtime_kind, has_come, state_letter};
-ghost use Rattle.due_model.specs.Rules.{letter_of, has_letter, is_too_soon, next_notice, same_state};
+ghost use Rattle.due_model.specs.Rules.{letter_of, has_letter, meets, with_letter, is_too_soon, next_notice, same_state};
 ghost use Rattle.due_model.specs.Rules.{is_problem, is_recovery, is_of_problem, is_of_downtime};
 ghost use Rattle.due_model.specs.Dependencies.{has_state};
 ghost use Rattle.due_model.specs.Histories.{number_after};
@@ -80,6 +80,52 @@ impl OptionLetters {
             OptionLetter::Flapping => self.flapping,
             OptionLetter::Downtime => self.downtime,
         }
+    }
+}
+
+impl OptionLetters {
+    /// The set of no letter.
+    pub const NONE: OptionLetters = OptionLetters {
+        down: false,
+        unreachable: false,
+        warning: false,
+        unknown: false,
+        critical: false,
+        recovery: false,
+        flapping: false,
+        downtime: false,
+    };
+
+    /// Whether this set and another have a letter in common.
+    pub fn meets(self, other: OptionLetters) -> bool
+        ensures { result ≡ meets self other }
+    {
+        (self.down && other.down)
+            || (self.unreachable && other.unreachable)
+            || (self.warning && other.warning)
+            || (self.unknown && other.unknown)
+            || (self.critical && other.critical)
+            || (self.recovery && other.recovery)
+            || (self.flapping && other.flapping)
+            || (self.downtime && other.downtime)
+    }
+
+    /// The set with a letter.
+    pub fn with(self, letter: OptionLetter) -> OptionLetters
+        ensures { result ≡ with_letter letter self }
+    {
+        let mut set = self;
+        match letter {
+            OptionLetter::Down => set.down = true,
+            OptionLetter::Unreachable => set.unreachable = true,
+            OptionLetter::Warning => set.warning = true,
+            OptionLetter::Unknown => set.unknown = true,
+            OptionLetter::Critical => set.critical = true,
+            OptionLetter::Recovery => set.recovery = true,
+            OptionLetter::Flapping => set.flapping = true,
+            OptionLetter::Downtime => set.downtime = true,
+        }
+        set
     }
 }
 
@@ -380,12 +426,16 @@ pub struct View {
     pub depends: bool,
     /// Whether the problem is acknowledged.
     pub acknowledged: bool,
-    /// When this problem began, in seconds since the epoch.
+    /// Since when the first delay runs, in seconds since the epoch.
     pub began: u64,
     /// `first_notification_delay`, in units of 60 seconds.
     pub delay: u32,
-    /// The last problem notice of this problem.
+    /// The last problem notice of this problem, if its wait wasn't ended.
     pub last: Option<Last>,
+    /// The letters of the states that were told in this problem.
+    pub told: OptionLetters,
+    /// Whether the host of a service isn't UP, where that holds notices back.
+    pub host_problem: bool,
 }
 
 /// Whether a problem notice of this state comes too soon at moment `t`: the last one reported the same

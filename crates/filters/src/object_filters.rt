@@ -38,7 +38,8 @@ pub fn object_verdict(view: View, attempt: &Attempt<'_>) -> Result<(), Filter>
     stop_if(depends(view, kind), Filter::Dependency)?;
     stop_if(is_acknowledged(view, kind), Filter::Acknowledged)?;
     stop_if(is_within_delay(view, attempt), Filter::FirstDelay)?;
-    stop_if(is_within_interval(view, attempt), Filter::Interval)
+    stop_if(is_within_interval(view, attempt), Filter::Interval)?;
+    stop_if(is_held_by_host(view, kind), Filter::HostDown)
 }
 
 /// The program switch is off.
@@ -81,6 +82,13 @@ fn depends(view: View, kind: Kind) -> bool
     ensures { result ≡ (is_of_problem kind && view.depends) }
 {
     kind.is_of_problem() && view.depends
+}
+
+/// The host of a service isn't UP, and this is about a problem.
+fn is_held_by_host(view: View, kind: Kind) -> bool
+    ensures { result ≡ (is_of_problem kind && view.host_problem) }
+{
+    kind.is_of_problem() && view.host_problem
 }
 
 /// The problem is acknowledged. Recoveries are told.

@@ -1,21 +1,21 @@
 //! What becomes of an attempt.
 
 ghost use Rattle.std.specs.Prelude.{◌≡◌, ◌≤◌, ◌<◌, ◌+◌, ◌^◌};
-ghost use Rattle.std.specs.Prelude.{length, slice_get, IfSome, Some};
+ghost use Rattle.std.specs.Prelude.{length, slice_get, true, IfSome, Some};
 ghost use Rattle.due_model.specs.declared.config.Object.{Object};
-ghost use Rattle.due_model.specs.Histories.{gap_of, judged};
+ghost use Rattle.due_model.specs.Histories.{gap_of, judged, told_for};
 ghost use Rattle.due_model.specs.Limits.{last_moment};
 ghost use Rattle.due_model.specs.Rules.{letter_of};
 ghost use Rattle.filters.specs.Attempt.{IsLastInRange, plain};
 ghost use Rattle.outcomes.specs.Found.{attempt_by, view_by};
-ghost use Rattle.outcomes.specs.Outcome.{IsInRange, IsOfKind};
+ghost use Rattle.outcomes.specs.Outcome.{IsInRange, IsOfKind, with_heard};
 ghost use Rattle.outcomes.specs.Rules.{AreRules};
 ghost use Rattle.problem_count.specs.Book.{longest_gap};
 
 use crate::found::Found;
 use crate::rules::Rules;
 use due_model::config::{Object, ObjectId};
-use due_model::notice::{Kind, Outcome};
+use due_model::notice::{Kind, Outcome, Reach};
 use due_model::rules::View;
 use escalation::interval::matching_interval;
 use filters::attempt::Attempt;
@@ -37,8 +37,8 @@ pub(crate) fn judge(
     ensures range { IsInRange result }
     ensures value { (settings : Object)
         → slice_get rules.now.config.now.objects object.0 ≡ Some settings
-        → result ≡ judged rules.now.config.now rules.now.zone.now object.0 settings
-        (view_by settings found.now book) (attempt_by found.now kind) }
+        → result ≡ with_heard true (judged rules.now.config.now rules.now.zone.now object.0
+        settings (view_by settings found.now book) (attempt_by found.now kind)) }
 {
     let settings = &rules.config.objects.as_slice()[usize::from(object.0)];
     let view = view_of(settings, found, book);
@@ -51,6 +51,7 @@ pub(crate) fn judge(
             number,
             moment: attempt.moment,
             gap: gap_of(rules, object, &attempt, number),
+            reach: reach_of(rules, settings, kind, view),
         },
         Err(filter) => Outcome::Suppressed {
             kind,
@@ -81,7 +82,29 @@ fn view_of(settings: &Object, found: &Found, book: Book) -> View
         acknowledged: found.after.acknowledged.is_some(),
         began: book.began(),
         delay: settings.delay,
-        last: book.last(),
+        last: if book.ended() { None } else { book.last() },
+        told: book.told(),
+        host_problem: found.host_problem,
+    }
+}
+
+/// How far a notice of an object with these settings reaches, if it counts.
+fn reach_of(rules: &Rules<'_>, settings: &Object, kind: Kind, view: View) -> Reach
+    ensures { result ≡ record {
+      heard = true;
+      told = told_for rules.now.config.now settings.now kind view.told;
+      standing = view.sent;
+    } }
+{
+    let told = if rules.config.choices.told && (kind.is_recovery() && settings.host.is_some()) {
+        Some(view.told)
+    } else {
+        None
+    };
+    Reach {
+        heard: true,
+        told,
+        standing: view.sent,
     }
 }
 

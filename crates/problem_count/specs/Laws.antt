@@ -1,5 +1,5 @@
 -- Laws of books, over every configuration, zone, object and past.
-use Rattle.std.specs.Prelude.{◌≡◌, ℕ, ◌≤◌, Bool, true, false, List, ◌∷◌, length, Option, Some, None, ◌==◌, if◌then◌else◌}
+use Rattle.std.specs.Prelude.{◌≡◌, ℕ, ◌≤◌, Bool, true, false, ◌&&◌, List, ◌∷◌, length, Option, Some, None, ◌==◌, if◌then◌else◌}
 use Rattle.due_model.specs.declared.config.Config.{Config}
 use Rattle.due_model.specs.declared.config.Object.{Object}
 use Rattle.due_model.specs.declared.event.Event.{Event}
@@ -10,11 +10,11 @@ use Rattle.due_model.specs.declared.notice.Outcome.{Outcome}
 use Rattle.due_model.specs.declared.notice.Outcome.TheVariants.{Nothing, Sent, Suppressed}
 use Rattle.due_model.specs.declared.rules.ObjectStatus.{ObjectStatus}
 use Rattle.due_model.specs.declared.zone.Zone.{Zone}
-use Rattle.due_model.specs.Readings.{hard_after, is_problem_state, moment}
+use Rattle.due_model.specs.Readings.{hard, hard_after, is_problem_state, moment}
 use Rattle.due_model.specs.Rules.{attempted, has_come, is_problem}
-use Rattle.due_model.specs.Histories.{outcome_of, status_after}
+use Rattle.due_model.specs.Histories.{outcome_of, repeats, status_after, timed, with_repeat}
 use Rattle.problem_count.specs.Book.{BookValues}
-use Rattle.problem_count.specs.Fits.{BookFits, BookFitsWithin, outcome_at, problem_before}
+use Rattle.problem_count.specs.Fits.{BookFits, BookFitsLapsed, BookFitsWithin, ended_in, outcome_at, problem_before}
 
 -- whether an event gives object o a hard state
 abbrev pub is_hard_of : ℕ → EventKind → Bool
@@ -24,7 +24,7 @@ is_hard_of o k = false
 -- whether an outcome is of an attempt as a problem
 abbrev pub is_of_problem_attempt : Outcome → Bool
 is_of_problem_attempt Nothing = false
-is_of_problem_attempt (Sent k s number t gap) = is_problem k
+is_of_problem_attempt (Sent k s number t gap reach) = is_problem k
 is_of_problem_attempt (Suppressed k s number t why) = is_problem k
 
 -- within an event that gives the object no hard state a book still fits
@@ -41,7 +41,7 @@ abbrev pub OtherOutcomesFit : Type 0
 OtherOutcomesFit =
     (c : Config) (zone : Zone) (o : ℕ) (object : Object) (e : Event) (past : List Event)
     (book : BookValues)
-    → BookFitsWithin c zone o object e past book
+    → BookFitsLapsed c zone o object e past book
     → is_of_problem_attempt (outcome_at c zone o object e past) ≡ false
     → BookFits c zone o object (e ∷ past) book
 
@@ -61,6 +61,7 @@ UntouchedFit =
     (book : BookValues)
     → BookFits c zone o object past book
     → touches o e.kind book.due (moment (e ∷ past)) ≡ false
+    → repeats c o e.kind past ≡ false
     → (outcome_at c zone o object e past ≡ Nothing) × BookFits c zone o object (e ∷ past) book
 
 -- what becomes of an event is what it attempts by the moment at which the book is due
@@ -71,7 +72,9 @@ OutcomesAreByDue =
     → BookFits c zone o object past book
     → outcome_at c zone o object e past
     ≡ outcome_of c zone o object e past (problem_before c zone o object e past)
-    (attempted o e.kind (status_after o past) book.due (moment (e ∷ past)))
+    (ended_in c zone o object e past)
+    (with_repeat (repeats c o e.kind past && is_problem_state (hard o past))
+    (attempted o e.kind (status_after o past) (timed c book.due) (moment (e ∷ past))))
 
 -- the clock attempts a problem exactly where the moment has come at which the book is due
 abbrev pub ClockAttemptsByDue : Type 0
@@ -79,8 +82,8 @@ ClockAttemptsByDue =
     (c : Config) (zone : Zone) (o : ℕ) (object : Object) (past : List Event) (book : BookValues)
     (t : ℕ)
     → BookFits c zone o object past book
-    → attempted o Clock (status_after o past) book.due t
-    ≡ (if has_come book.due t then Some Problem else None)
+    → attempted o Clock (status_after o past) (timed c book.due) t
+    ≡ (if has_come (timed c book.due) t then Some Problem else None)
 
 -- a problem runs after an event that is attempted as one, whenever it is due
 abbrev pub ProblemsRun : Type 0
@@ -88,6 +91,14 @@ ProblemsRun =
     (o : ℕ) (k : EventKind) (old : ObjectStatus) (due : Option ℕ) (t : ℕ)
     → attempted o k old due t ≡ Some Problem
     → is_problem_state (hard_after o k old.state) ≡ true
+
+-- so does it after an event that attempts the problem again
+abbrev pub RepeatsRun : Type 0
+RepeatsRun =
+    (c : Config) (o : ℕ) (k : EventKind) (past : List Event)
+    → repeats c o k past ≡ true
+    → is_problem_state (hard o past) ≡ true
+    → is_problem_state (hard_after o k (hard o past)) ≡ true
 
 -- no more notices went out than there were events
 abbrev pub CountsAreFew : Type 0
