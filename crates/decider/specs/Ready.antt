@@ -8,7 +8,8 @@ use Rattle.due_model.specs.declared.event.EventKind.TheVariants.{Clock, Program,
 use Rattle.due_model.specs.declared.zone.Zone.{Zone}
 use Rattle.due_model.specs.Histories.{ready}
 use Rattle.due_model.specs.Limits.{max_objects}
-use Rattle.due_model.specs.Readings.{began, hard, is_problem_state, moment}
+use Rattle.due_model.specs.Changes.{delayed}
+use Rattle.due_model.specs.Readings.{hard, is_problem_state, moment}
 use Rattle.due_model.specs.Rules.{has_come}
 use Rattle.due_times.specs.Index.{Due, at, due_count, left_at}
 use Rattle.problem_count.specs.Fits.{book_of, problem}
@@ -46,7 +47,7 @@ abbrev pub is_ready : Config → Zone → Event → List Event → (o : ℕ) →
 is_ready c zone e past o =
     option_map_or
     (λ settings. is_problem_state (hard o past)
-    && has_come (ready c zone settings (began o past) (problem c zone o settings past))
+    && has_come (ready c zone settings (delayed c o past) (problem c zone o settings past))
     (moment (e ∷ past)))
     (slice_get c.objects o) false
 
