@@ -1,10 +1,9 @@
 -- What a contact has of a notification is what the definitions say, and receivers are contacts of the configuration.
-use Rattle.std.proofs.Common.{◌≡◌, ℕ, ◌+◌, ◌<◌, ◌-◌, ◌&&◌, ◌||◌, true, false, not, take, All, List, [], ◌∷◌, ◌++◌, length, map, flat_map, slice_get, get_or, Option, Some, None, is_some, Bool, if◌then◌else◌, refl, sym, ap, subst, ◌∙◌, append_assoc}
+use Rattle.std.proofs.Common.{◌≡◌, ℕ, ◌<◌, ◌-◌, ◌&&◌, ◌||◌, true, false, not, All, List, [], ◌∷◌, ◌++◌, length, map, flat_map, slice_get, get_or, Option, Some, None, is_some, Bool, if◌then◌else◌, refl, sym, ap, subst, ◌∙◌, append_assoc}
 use Rattle.std.specs.List.{list_any, range_with_len}
 use Rattle.std.proofs.lemmas.Bool.{cond_both}
 use Rattle.std.specs.Option.{option_map_or}
-use Rattle.std.proofs.lemmas.List.{append-nil, take_more}
-use Rattle.std.proofs.lemmas.List.Folds.{list_any-append}
+use Rattle.std.proofs.lemmas.List.{append-nil}
 use Rattle.std.proofs.lemmas.List.Elements.{All-nil, All-cons, All-head, All-tail, All-filter}
 use Rattle.lemmas.proofs.Lists.{range_below, some_at}
 use Rattle.due_model.specs.declared.config.Config.{Config}
@@ -154,16 +153,6 @@ receivers_law c zone m settings told same service is =
     ∙ flat_alike (message_entries c m) (contact_entries c zone m.object.0 settings m.event m.number (plain m.attempt) m.told) (message_law c zone m settings same service) ks
 
 -- ---- whether the filters of a receiver pass
-
-or_none : (b : Bool) → (b || false) ≡ b
-or_none true = refl
-or_none false = refl
-
--- one element more
-pub any_more : {X : Type 0} (f : X → Bool) (xs : List X) (i : ℕ) (d : X) → i < length xs → list_any f (take (i + 1) xs) ≡ (list_any f (take i xs) || f (get_or xs i d))
-any_more f xs i d low =
-    ap (list_any f) (take_more xs i d low) ∙ list_any-append f (take i xs) (get_or xs i d ∷ [])
-    ∙ ap (λ (b : Bool). list_any f (take i xs) || b) (or_none (f (get_or xs i d)))
 
 any_ids : (f : ℕ → Bool) (ks : List ℕ) → list_any (λ (contact : ContactId). f contact.0) (contact_ids ks) ≡ list_any f ks
 any_ids f [] = refl

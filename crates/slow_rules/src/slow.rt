@@ -6,7 +6,7 @@ ghost use Rattle.due_model.specs.Due.{due, due_for, sup, suppressed_for};
 ghost use Rattle.due_model.specs.Proper.{IsProper};
 
 use crate::notices::{Answers, add_answers};
-use crate::outcomes::outcome;
+use crate::outcomes::{is_over, outcome};
 use crate::subject::Subject;
 use due_model::config::{Config, LaneId, ObjectId};
 use due_model::event::Event;
@@ -33,13 +33,16 @@ fn find_answers(
         (reverse events.now)) }
 {
     let mut history = Vec::new(alloc);
+    let mut over = false;
     let mut answers = Answers {
         due: Vec::new(alloc),
         suppressed: Vec::new(alloc),
     };
     for (index, event) in events.iter().enumerate() {
         let past = &events[..index];
-        let now = outcome(alloc, subject, event, past, history.as_slice())?;
+        let so_far = history.as_slice();
+        let now = outcome(alloc, subject, event, past, so_far, over)?;
+        over = is_over(alloc, subject, event, past, so_far, now, over)?;
         let number = index as u64;
         add_answers(alloc, subject, lane, number, now, &mut answers)?;
         history.push(now)?;

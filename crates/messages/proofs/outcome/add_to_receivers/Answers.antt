@@ -1,7 +1,8 @@
 use Rattle.std.proofs.Common.{rules, ◌||◌, ◌∙◌, ap, sym, flat_map, take}
 use Rattle.std.proofs.lemmas.Result.{err_from_is_err_and}
 use Rattle.messages.specs.Message.{message_entries, message_passes}
-use Rattle.messages.proofs.MessageLemmas.{any_more, has_more_after}
+use Rattle.messages.proofs.MessageLemmas.{has_more_after}
+use Rattle.lemmas.proofs.Lists.{any_more}
 use Rattle.std.specs.List.{list_any}
 use Rattle.due_model.specs.declared.config.ContactId.{ContactId}
 use Rattle.messages.proofs.outcome.add_to_receivers.Goals as goal

@@ -4,8 +4,8 @@ use Rattle.std.specs.List.{range_with_len}
 use Rattle.due_model.specs.Escalations.{has_contact}
 use Rattle.slow_rules.specs.Notices.{number_of_contact}
 use Rattle.lemmas.proofs.Lists.{filter_range_more}
-use Rattle.slow_rules.proofs.notices.contacts_with.Goals as goal
-use Rattle.slow_rules.proofs.notices.contacts_with.Goals.{then-is_among+in_ok-push, else-is_among}
+use Rattle.slow_rules.proofs.receivers.contacts_with.Goals as goal
+use Rattle.slow_rules.proofs.receivers.contacts_with.Goals.{then-is_among+in_ok-push, else-is_among}
 
 pub loop-number-preserved : goal.loop-number-preserved
 loop-number-preserved c =
