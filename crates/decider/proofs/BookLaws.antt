@@ -35,6 +35,8 @@ touches_other (event.Hard q state) p is o ne due t = ne_eqb q.0 o (λ e. ne (sym
 touches_other (event.Downtime q change) p is o ne due t = ne_eqb q.0 o (λ e. ne (sym e ∙ ap (λ (i : ObjectId). i.0) (same_Some q p is)))
 touches_other (event.Flapping q starts) p is o ne due t = ne_eqb q.0 o (λ e. ne (sym e ∙ ap (λ (i : ObjectId). i.0) (same_Some q p is)))
 touches_other (event.Ack q sticky) p is o ne due t = ne_eqb q.0 o (λ e. ne (sym e ∙ ap (λ (i : ObjectId). i.0) (same_Some q p is)))
+touches_other (event.AckRemoved q) p is o ne due t = ne_eqb q.0 o (λ e. ne (sym e ∙ ap (λ (i : ObjectId). i.0) (same_Some q p is)))
+touches_other (event.OwnSwitch q on) p is o ne due t = ne_eqb q.0 o (λ e. ne (sym e ∙ ap (λ (i : ObjectId). i.0) (same_Some q p is)))
 
 -- and that one it touches
 pub touches_own : (k : EventKind) (p : ObjectId) → named_by k ≡ Some p → (due : Option ℕ) (t : ℕ) → touches p.0 k due t ≡ true
@@ -44,6 +46,8 @@ touches_own (event.Hard q state) p is due t = eq-eqb q.0 p.0 (ap (λ (i : Object
 touches_own (event.Downtime q change) p is due t = eq-eqb q.0 p.0 (ap (λ (i : ObjectId). i.0) (same_Some q p is))
 touches_own (event.Flapping q starts) p is due t = eq-eqb q.0 p.0 (ap (λ (i : ObjectId). i.0) (same_Some q p is))
 touches_own (event.Ack q sticky) p is due t = eq-eqb q.0 p.0 (ap (λ (i : ObjectId). i.0) (same_Some q p is))
+touches_own (event.AckRemoved q) p is due t = eq-eqb q.0 p.0 (ap (λ (i : ObjectId). i.0) (same_Some q p is))
+touches_own (event.OwnSwitch q on) p is due t = eq-eqb q.0 p.0 (ap (λ (i : ObjectId). i.0) (same_Some q p is))
 
 module _ (c : Config) (zone : Zone) (e : Event) (past : List Event) where
   pub after_is : (o : ℕ) (settings : Object) → slice_get c.objects o ≡ Some settings → book_after c zone e past o ≡ record { object = record { 0 = o }; book = book_of c zone o settings (e ∷ past) } ∷ []

@@ -27,6 +27,8 @@ no_hard (event.Hard p state) is m x = cc
 no_hard (event.Downtime p change) is m x = refl
 no_hard (event.Flapping p starts) is m x = refl
 no_hard (event.Ack p sticky) is m x = refl
+no_hard (event.AckRemoved p) is m x = refl
+no_hard (event.OwnSwitch p on) is m x = refl
 
 -- one that gives it to an object changes that of the object alone
 one_hard : (k : EventKind) (p : ObjectId) (state : State) → hard_by k ≡ Some (p, state) → (m : ℕ) (x : State) → hard_after m k x ≡ cond (p.0 == m) state x
@@ -36,6 +38,8 @@ one_hard (event.Hard q now) p state is m x = ap (λ (given : ObjectId × State).
 one_hard (event.Downtime q change) p state is m x = cc
 one_hard (event.Flapping q starts) p state is m x = cc
 one_hard (event.Ack q sticky) p state is m x = cc
+one_hard (event.AckRemoved q) p state is m x = cc
+one_hard (event.OwnSwitch q on) p state is m x = cc
 
 pub hard_named : (k : EventKind) (p : ObjectId) (state : State) → hard_by k ≡ Some (p, state) → named_by k ≡ Some p
 hard_named event.Clock p state is = cc
@@ -44,6 +48,8 @@ hard_named (event.Hard q now) p state is = ap (λ (given : ObjectId × State). S
 hard_named (event.Downtime q change) p state is = cc
 hard_named (event.Flapping q starts) p state is = cc
 hard_named (event.Ack q sticky) p state is = cc
+hard_named (event.AckRemoved q) p state is = cc
+hard_named (event.OwnSwitch q on) p state is = cc
 
 -- by states that agree a dependency fails alike
 by_states : (c : Config) (zone : Zone) (f g : ℕ → State) (t o : ℕ) (host : Option ObjectId) → ((m : ℕ) → f m ≡ g m) → depends_by c zone f t o host ≡ depends_by c zone g t o host
@@ -78,6 +84,8 @@ repeats_given c (event.Hard q now) p s past o is = ap (λ (given : ObjectId × S
 repeats_given c (event.Downtime q change) p s past o is = cc
 repeats_given c (event.Flapping q starts) p s past o is = cc
 repeats_given c (event.Ack q sticky) p s past o is = cc
+repeats_given c (event.AckRemoved q) p s past o is = cc
+repeats_given c (event.OwnSwitch q on) p s past o is = cc
 
 module _ (c : Config) (zone : Zone) (e : Event) (past : List Event) (s : StatusLists) (fit : StatusesFit (length c.objects) past s) (o t : ℕ) (host : Option ObjectId) (at : t ≡ moment (e ∷ past)) where
   known : (m : ℕ) → state_of s.states m ≡ hard m past

@@ -17,7 +17,7 @@ use Rattle.due_model.specs.declared.event.EventKind.{EventKind}
 use Rattle.due_model.specs.declared.event.EventKind.TheVariants as event
 use Rattle.due_model.specs.declared.zone.Zone.{Zone}
 use Rattle.due_model.specs.Accepted.{IsAccepted}
-use Rattle.due_model.specs.Histories.{ready, repeats}
+use Rattle.due_model.specs.Histories.{ready, ready_or, repeats}
 use Rattle.due_model.specs.Limits.{max_events}
 use Rattle.due_model.specs.Changes.{delayed}
 use Rattle.due_model.specs.Readings.{hard, is_problem_state, moment}
@@ -25,7 +25,7 @@ use Rattle.due_model.specs.Rules.{has_come}
 use Rattle.due_times.specs.Index.{Due, IsNextDue, NoneIsDueFrom, Sets, at, due_count}
 use Rattle.lemmas.proofs.Numbers.{below_more, flat_below, flat_more}
 use Rattle.messages.specs.Entries.{object_entries}
-use Rattle.problem_count.specs.Fits.{book_of, problem}
+use Rattle.problem_count.specs.Fits.{book_of, problem, released_after}
 use Rattle.problem_count.specs.Laws.{UntouchedFit, touches}
 use Rattle.decider.specs.declared.share.Share.{Share}
 use Rattle.decider.specs.declared.staging.NewBook.{NewBook}
@@ -111,6 +111,8 @@ none_left (event.Hard p state) t = refl
 none_left (event.Downtime p change) t = refl
 none_left (event.Flapping p starts) t = refl
 none_left (event.Ack p sticky) t = refl
+none_left (event.AckRemoved p) t = refl
+none_left (event.OwnSwitch p on) t = refl
 
 -- what is left of the entry of an object that the event doesn't touch is all of it
 untouched_left : (k : EventKind) (o : ℕ) (due : Option ℕ) (t : ℕ) → touches o k due t ≡ false → left_after k t due ≡ due
@@ -120,6 +122,8 @@ untouched_left (event.Hard p state) o due t h = refl
 untouched_left (event.Downtime p change) o due t h = refl
 untouched_left (event.Flapping p starts) o due t h = refl
 untouched_left (event.Ack p sticky) o due t h = refl
+untouched_left (event.AckRemoved p) o due t h = refl
+untouched_left (event.OwnSwitch p on) o due t h = refl
 
 module _ (c : Config) (zone : Zone) (share : Share) (past : List Event) where
   -- the ready moment of an object of the share
@@ -279,13 +283,13 @@ module _ (c : Config) (zone : Zone) (share : Share) (e : Event) (past : List Eve
   ready_test : (o : ℕ) → has_come (ready_of c zone share past o) (moment (e ∷ past)) ≡ (is_owned share o && is_ready c zone e past o)
   ready_test o = by_share (is_owned share o)
     where
-      by_state : (settings : Object) (b : Bool) → has_come (cond b (ready c zone settings (delayed c o past) (problem c zone o settings past)) None) (moment (e ∷ past))
-          ≡ (b && has_come (ready c zone settings (delayed c o past) (problem c zone o settings past)) (moment (e ∷ past)))
+      by_state : (settings : Object) (b : Bool) → has_come (cond b (ready_or (released_after c zone o settings past) (ready c zone settings (delayed c o past) (problem c zone o settings past))) None) (moment (e ∷ past))
+          ≡ (b && has_come (ready_or (released_after c zone o settings past) (ready c zone settings (delayed c o past) (problem c zone o settings past))) (moment (e ∷ past)))
       by_state settings true = refl
       by_state settings false = refl
 
       by_object : (found : Option Object) → has_come (option_map_or (λ s. (book_of c zone o s past).due) found None) (moment (e ∷ past))
-          ≡ option_map_or (λ s. is_problem_state (hard o past) && has_come (ready c zone s (delayed c o past) (problem c zone o s past)) (moment (e ∷ past))) found false
+          ≡ option_map_or (λ s. is_problem_state (hard o past) && has_come (ready_or (released_after c zone o s past) (ready c zone s (delayed c o past) (problem c zone o s past))) (moment (e ∷ past))) found false
       by_object None = refl
       by_object (Some settings) = by_state settings (is_problem_state (hard o past))
 

@@ -153,6 +153,8 @@ repeats_other c h (event.Hard q s) past p accepted named again =
 repeats_other c h (event.Downtime q change) past p accepted named again = cc
 repeats_other c h (event.Flapping q starts) past p accepted named again = cc
 repeats_other c h (event.Ack q sticky) past p accepted named again = cc
+repeats_other c h (event.AckRemoved q) past p accepted named again = cc
+repeats_other c h (event.OwnSwitch q on) past p accepted named again = cc
 
 -- an event that gives no hard state attempts no problem again
 pub none_again : (c : Config) (k : EventKind) (past : List Event) → hard_by k ≡ None → (o : ℕ) → repeats c o k past ≡ false
@@ -162,6 +164,8 @@ none_again c (event.Hard p s) past none o = cc
 none_again c (event.Downtime p change) past none o = refl
 none_again c (event.Flapping p starts) past none o = refl
 none_again c (event.Ack p sticky) past none o = refl
+none_again c (event.AckRemoved p) past none o = refl
+none_again c (event.OwnSwitch p on) past none o = refl
 
 module _ (laws : UntouchedFit) (v : Values) (e : Event) (past : List Event) (is : IsAt v e past) where
   names_is : (p : ObjectId) → named_by v.context.kind ≡ Some p → named_by e.kind ≡ Some p

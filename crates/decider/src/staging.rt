@@ -126,6 +126,22 @@ pub(crate) fn stage_event(
             object,
             staged,
         ),
+        EventKind::AckRemoved(object) => stage_owned(
+            alloc,
+            reading,
+            dependencies,
+            statuses,
+            object,
+            staged,
+        ),
+        EventKind::OwnSwitch(object, _) => stage_owned(
+            alloc,
+            reading,
+            dependencies,
+            statuses,
+            object,
+            staged,
+        ),
     }
 }
 

@@ -4,7 +4,7 @@ use Rattle.std.proofs.lemmas.List.{reverse-append, reverse-reverse}
 use Rattle.std.proofs.lemmas.List.Elements.{All-nil, All-push}
 use Rattle.due_model.specs.declared.event.Event.{Event}
 use Rattle.due_model.specs.declared.event.EventKind.{EventKind}
-use Rattle.due_model.specs.declared.event.EventKind.TheVariants.{Clock, Program, Hard, Downtime, Flapping, Ack}
+use Rattle.due_model.specs.declared.event.EventKind.TheVariants.{Clock, Program, Hard, Downtime, Flapping, Ack, AckRemoved, OwnSwitch}
 use Rattle.due_model.specs.declared.state.State.{State}
 use Rattle.due_model.specs.declared.state.State.TheVariants.{Pending}
 use Rattle.due_model.specs.Readings.{program_on, switch_after, hard, hard_after, flapping, flapping_after}
@@ -48,6 +48,8 @@ hard_step o (Hard p s) old = given_if (p.0 == o) s old
 hard_step o (Downtime p change) old = refl
 hard_step o (Flapping p starts) old = refl
 hard_step o (Ack p sticky) old = refl
+hard_step o (AckRemoved p) old = refl
+hard_step o (OwnSwitch p on) old = refl
 
 flapping_step : (o : ℕ) (k : EventKind) (old : Bool) → flapping_after o k old ≡ unwrap_or (flapping_of o k) old
 flapping_step o Clock old = refl
@@ -56,6 +58,8 @@ flapping_step o (Hard p s) old = refl
 flapping_step o (Downtime p change) old = refl
 flapping_step o (Flapping p starts) old = given_if (p.0 == o) starts old
 flapping_step o (Ack p sticky) old = refl
+flapping_step o (AckRemoved p) old = refl
+flapping_step o (OwnSwitch p on) old = refl
 
 switch_step : (k : EventKind) (old : Bool) → switch_after k old ≡ unwrap_or (switch_of k) old
 switch_step Clock old = refl
@@ -64,6 +68,8 @@ switch_step (Hard p s) old = refl
 switch_step (Downtime p change) old = refl
 switch_step (Flapping p starts) old = refl
 switch_step (Ack p sticky) old = refl
+switch_step (AckRemoved p) old = refl
+switch_step (OwnSwitch p on) old = refl
 
 pub hard_of_last : (o : ℕ) (feed : List Event) → IsOfLastEvent (hard_state_of o) Pending feed (hard o (reverse feed))
 hard_of_last o feed = of_feed (hard_state_of o) Pending (hard o) refl (λ e past. hard_step o e.kind (hard o past)) feed

@@ -8,7 +8,7 @@ use Rattle.due_model.specs.declared.config.Config.{Config}
 use Rattle.due_model.specs.declared.config.Object.{Object}
 use Rattle.due_model.specs.declared.event.Event.{Event}
 use Rattle.due_model.specs.declared.event.EventKind.{EventKind}
-use Rattle.due_model.specs.declared.event.EventKind.TheVariants.{Clock, Program, Hard, Downtime, Flapping, Ack}
+use Rattle.due_model.specs.declared.event.EventKind.TheVariants.{Clock, Program, Hard, Downtime, Flapping, Ack, AckRemoved, OwnSwitch}
 use Rattle.due_model.specs.declared.event.DowntimeChange.TheVariants.{Start, End, Cancelled}
 use Rattle.due_model.specs.declared.notice.Outcome.{Outcome}
 use Rattle.due_model.specs.declared.notice.Outcome.TheVariants.{Nothing, Sent, Suppressed}
@@ -124,6 +124,8 @@ counted o (Program on) d = nothing_counted d
 counted o (Hard p s) d = nothing_counted d
 counted o (Flapping p starts) d = nothing_counted d
 counted o (Ack p sticky) d = nothing_counted d
+counted o (AckRemoved p) d = nothing_counted d
+counted o (OwnSwitch p on) d = nothing_counted d
 counted o (Downtime p Start) d = start_counted (p.0 == o) d
 counted o (Downtime p End) d = end_counted (p.0 == o) d
 counted o (Downtime p Cancelled) d = end_counted (p.0 == o) d

@@ -4,7 +4,7 @@ use Rattle.due_model.specs.declared.config.Config.{Config}
 use Rattle.due_model.specs.declared.config.Object.{Object}
 use Rattle.due_model.specs.declared.event.Event.{Event}
 use Rattle.due_model.specs.declared.event.EventKind.{EventKind}
-use Rattle.due_model.specs.declared.event.EventKind.TheVariants.{Clock, Program, Hard, Downtime, Flapping, Ack}
+use Rattle.due_model.specs.declared.event.EventKind.TheVariants.{Clock, Program, Hard, Downtime, Flapping, Ack, AckRemoved, OwnSwitch}
 use Rattle.due_model.specs.declared.event.DowntimeChange.TheVariants.{Start, End, Cancelled}
 use Rattle.due_model.specs.declared.notice.Outcome.{Outcome}
 use Rattle.due_model.specs.declared.notice.Outcome.TheVariants.{Nothing, Sent, Suppressed}
@@ -58,6 +58,8 @@ starts_downtime o (Downtime p End) = false
 starts_downtime o (Downtime p Cancelled) = false
 starts_downtime o (Flapping p starts) = false
 starts_downtime o (Ack p sticky) = false
+starts_downtime o (AckRemoved p) = false
+starts_downtime o (OwnSwitch p on) = false
 
 abbrev pub ends_downtime : ℕ → EventKind → Bool
 ends_downtime o Clock = false
@@ -68,6 +70,8 @@ ends_downtime o (Downtime p End) = p.0 == o
 ends_downtime o (Downtime p Cancelled) = p.0 == o
 ends_downtime o (Flapping p starts) = false
 ends_downtime o (Ack p sticky) = false
+ends_downtime o (AckRemoved p) = false
+ends_downtime o (OwnSwitch p on) = false
 
 abbrev pub starts_in : ℕ → List Event → ℕ
 starts_in o events = count_by (λ e. starts_downtime o e.kind) events
@@ -107,6 +111,8 @@ is_pending_event (Hard p s) = is_pending s
 is_pending_event (Downtime p change) = false
 is_pending_event (Flapping p starts) = false
 is_pending_event (Ack p sticky) = false
+is_pending_event (AckRemoved p) = false
+is_pending_event (OwnSwitch p on) = false
 
 -- event b, with `later` after it, is a hard problem state of the object, and no event strictly between it and the last is a hard
 -- OK state of it
@@ -154,6 +160,8 @@ hard_state_of o (Hard p s) = if p.0 == o then Some s else None
 hard_state_of o (Downtime p change) = None
 hard_state_of o (Flapping p starts) = None
 hard_state_of o (Ack p sticky) = None
+hard_state_of o (AckRemoved p) = None
+hard_state_of o (OwnSwitch p on) = None
 
 -- whether an event says that object o starts or stops flapping, if it says so
 abbrev pub flapping_of : ℕ → EventKind → Option Bool
@@ -163,6 +171,8 @@ flapping_of o (Hard p s) = None
 flapping_of o (Downtime p change) = None
 flapping_of o (Flapping p starts) = if p.0 == o then Some starts else None
 flapping_of o (Ack p sticky) = None
+flapping_of o (AckRemoved p) = None
+flapping_of o (OwnSwitch p on) = None
 
 -- the program switch that an event sets, if it sets one
 abbrev pub switch_of : EventKind → Option Bool
@@ -172,6 +182,8 @@ switch_of (Hard p s) = None
 switch_of (Downtime p change) = None
 switch_of (Flapping p starts) = None
 switch_of (Ack p sticky) = None
+switch_of (AckRemoved p) = None
+switch_of (OwnSwitch p on) = None
 
 -- a value is that of the last event of the feed that gives one; where none does, it is the first value
 abbrev pub IsOfLastEvent : {X : Type 0} → (EventKind → Option X) → X → List Event → X → Type 0

@@ -1,5 +1,5 @@
 -- What becomes of an object at each event. A history is the list of its outcomes, the newest first.
-use Rattle.std.specs.Prelude.{ℕ, ◌+◌, ◌*◌, Bool, true, false, not, ◌==◌, slice_get, ◌&&◌, ◌||◌, List, [], ◌∷◌, count_by, Option, Some, None, is_some, if◌then◌else◌}
+use Rattle.std.specs.Prelude.{ℕ, ◌+◌, ◌*◌, Bool, true, false, not, ◌==◌, slice_get, ◌&&◌, ◌||◌, List, [], ◌∷◌, count_by, Option, Some, None, is_some, unwrap_or, if◌then◌else◌}
 use Rattle.due_model.specs.declared.config.Config.{Config}
 use Rattle.due_model.specs.declared.config.Object.{Object}
 use Rattle.due_model.specs.declared.event.Event.{Event}
@@ -13,11 +13,11 @@ use Rattle.due_model.specs.declared.notice.Outcome.{Outcome}
 use Rattle.due_model.specs.declared.notice.Outcome.TheVariants.{Nothing, Sent, Suppressed}
 use Rattle.due_model.specs.declared.zone.Zone.{Zone}
 use Rattle.due_model.specs.Periods.{in_period, next_in}
-use Rattle.due_model.specs.Readings.{moment, program_on, hard, depth, down, flapping, begins, is_problem_state}
+use Rattle.due_model.specs.Readings.{moment, program_on, hard, depth, down, flapping, begins, is_hard_of, is_problem_state, switched}
 use Rattle.due_model.specs.Changes.{changes, delayed}
 use Rattle.due_model.specs.declared.notice.Reach.{Reach}
 use Rattle.due_model.specs.declared.options.OptionLetters.{OptionLetters}
-use Rattle.due_model.specs.Acknowledgements.{acked, acknowledgement}
+use Rattle.due_model.specs.Acknowledgements.{acked, acknowledgement, takes_back}
 use Rattle.due_model.specs.declared.rules.Last.{Last}
 use Rattle.due_model.specs.declared.rules.ObjectStatus.{ObjectStatus}
 use Rattle.due_model.specs.declared.rules.Attempt.{Attempt}
@@ -97,6 +97,29 @@ ready c zone object began (Suppressed k state number moment why ∷ history) =
     if is_problem k then retry_after c zone object began (last_notice history) moment why
     else ready c zone object began history
 
+-- whether an outcome is of an attempt as a problem
+abbrev pub is_of_problem_attempt : Outcome → Bool
+is_of_problem_attempt Nothing = false
+is_of_problem_attempt (Sent k s number t gap reach) = is_problem k
+is_of_problem_attempt (Suppressed k s number t why) = is_problem k
+
+-- when an acknowledgement was taken back, with no attempt as a problem since: after an event that was such an attempt or
+-- wasn't, and takes one back at this moment or doesn't
+abbrev pub released_by : (attempts takes : Bool) → (m : ℕ) → Option ℕ → Option ℕ
+released_by attempts takes m before = if attempts then None else (if takes then Some m else before)
+
+abbrev pub released : ℕ → List Event → List Outcome → Option ℕ
+released o [] history = None
+released o (e ∷ past) [] = None
+released o (e ∷ past) (outcome ∷ history) =
+    released_by (is_of_problem_attempt outcome) (takes_back o e past) (moment (e ∷ past))
+    (released o past history)
+
+-- the ready moment, by the last attempt or where an acknowledgement was taken back since
+abbrev pub ready_or : (released ready : Option ℕ) → Option ℕ
+ready_or None ready = ready
+ready_or (Some m) ready = Some m
+
 -- the letters of the states of which a problem notice went out
 abbrev pub told_letters : List Outcome → OptionLetters
 told_letters [] = no_letter
@@ -117,7 +140,12 @@ status_after o past =
       depth = depth o past;
       flapping = flapping o past;
       acknowledged = acknowledgement o past;
+      switched = switched o past;
     }
+
+-- whether the object's notifications are on: as its own switch says, and at first as the object text does
+abbrev pub is_enabled : Object → (own : Option Bool) → Bool
+is_enabled object own = unwrap_or own object.enabled
 
 -- whether the object, or a service's host, is in downtime
 abbrev pub down_with_host : ℕ → Object → List Event → Bool
@@ -199,7 +227,7 @@ abbrev pub view : Config → Zone → ℕ → Object → Event → List Event �
     → (over : Bool) → View
 view c zone o object e past earlier over = record {
   program = program_on (e ∷ past);
-  enabled = object.enabled;
+  enabled = is_enabled object (switched o (e ∷ past));
   down = down_with_host o object (e ∷ past);
   flapping = flapping o (e ∷ past);
   options = object.options;
@@ -210,6 +238,7 @@ view c zone o object e past earlier over = record {
   began = delayed c o (e ∷ past);
   delay = object.delay;
   last = waiting over (last_notice earlier);
+  renews = object.volatile && is_hard_of o e.kind;
   told = told_letters earlier;
   host_problem = host_holds c object (e ∷ past);
 }
@@ -280,6 +309,8 @@ repeats c o (event.Hard p s) past =
 repeats c o (event.Downtime p change) past = false
 repeats c o (event.Flapping p starts) past = false
 repeats c o (event.Ack p sticky) past = false
+repeats c o (event.AckRemoved p) past = false
+repeats c o (event.OwnSwitch p on) past = false
 
 -- what is attempted: a problem again, where nothing else is
 abbrev pub with_repeat : Bool → Option Kind → Option Kind
@@ -293,7 +324,8 @@ outcome c zone o object e past history =
     (ended_at c zone o object e past history)
     (with_repeat (repeats c o e.kind past && is_problem_state (hard o past))
     (attempted o e.kind (status_after o past)
-    (timed c (ready c zone object (delayed c o past) (of_problem o past history)))
+    (timed c (ready_or (released o past history)
+    (ready c zone object (delayed c o past) (of_problem o past history))))
     (moment (e ∷ past))))
 
 -- the history with the outcome of one more event

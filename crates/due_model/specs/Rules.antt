@@ -66,6 +66,8 @@ attempted o (event.Downtime p change) old ready t =
 attempted o (event.Flapping p starts) old ready t =
     if p.0 == o then attempted_by_flapping old.flapping starts else None
 attempted o (event.Ack p sticky) old ready t = None
+attempted o (event.AckRemoved p) old ready t = None
+attempted o (event.OwnSwitch p on) old ready t = None
 
 -- the letter of a state (chapter "Object Definitions", `notification_options`)
 abbrev pub state_letter : State → OptionLetter
@@ -215,7 +217,10 @@ failing c zone v a = first_failing (
           && nat_lt a.moment (v.began + 60 * v.delay),
       filter.FirstDelay,
     )
-    ∷ (is_problem a.kind && is_too_soon v.last a.state a.moment, filter.Interval)
+    ∷ (
+      is_problem a.kind && not v.renews && is_too_soon v.last a.state a.moment,
+      filter.Interval,
+    )
     ∷ (is_of_problem a.kind && v.host_problem, filter.HostDown)
     ∷ [])
 

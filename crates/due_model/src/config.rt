@@ -4,6 +4,7 @@ ghost use Rattle.std.specs.Prelude.{◌≡◌};
 ghost use Rattle.due_model.specs.Choices.{nagios, own};
 ghost use Rattle.due_model.specs.Due.{uses_lane};
 ghost use Rattle.due_model.specs.Escalations.{has_contact};
+ghost use Rattle.due_model.specs.Histories.{is_enabled};
 
 use crate::dependencies::Dependencies;
 use crate::escalations::Escalations;
@@ -49,11 +50,23 @@ pub struct Object {
     pub interval: u32,
     /// `first_notification_delay`, in units of 60 seconds: 0 to 1,000,000.
     pub delay: u32,
+    /// `is_volatile` of a service: each of its hard problem states is notified of, however soon.
+    pub volatile: bool,
     /// The contacts that are notified where no escalation matches.
     pub contacts: ContactList,
 }
 
 impl Object {
+    /// Whether the object's notifications are on: as its own switch says, if anything switched it.
+    pub fn is_enabled(&self, own: Option<bool>) -> bool
+        ensures { result ≡ is_enabled self.now own }
+    {
+        match own {
+            Some(on) => on,
+            None => self.enabled,
+        }
+    }
+
     /// Whether this contact is one of the object's own.
     pub fn has_contact(&self, contact: ContactId) -> bool
         ensures { result ≡ has_contact self.now.contacts contact.0 }

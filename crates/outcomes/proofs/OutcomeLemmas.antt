@@ -16,7 +16,9 @@ use Rattle.due_model.specs.declared.notice.Outcome.TheVariants.{Nothing, Sent, S
 use Rattle.due_model.specs.declared.rules.View.{View}
 use Rattle.due_model.specs.declared.state.State.{State}
 use Rattle.due_model.specs.declared.zone.Zone.{Zone}
-use Rattle.due_model.specs.Acknowledgements.{acknowledgement}
+use Rattle.due_model.specs.Acknowledgements.{acked, acknowledgement, is_removal_of, takes_back}
+use Rattle.due_model.specs.declared.event.EventKind.{EventKind}
+use Rattle.due_model.specs.declared.event.EventKind.TheVariants as event
 use Rattle.due_model.specs.Histories.{down_with_host, gap_of, host_holds, judged, lapses, number_after, repeats, with_repeat, outcome_of, reach_of, status_after, timed, view}
 use Rattle.due_model.specs.Periods.{first_passing, next_in}
 use Rattle.due_model.specs.Readings.{hard, hard_after, is_problem_state, moment}
@@ -49,18 +51,37 @@ sent_by false sent = omega arith
 pub hard_sent : (choices : Choices) (s : State) (t : ℕ) (book : BookValues) → (after_hard choices s t book).sent ≤ book.sent
 hard_sent choices s t book = sent_by (begins_problem s book) book.sent
 
+-- ---- an acknowledgement that is taken back
+
+pub takes_is : (o : ℕ) (k : EventKind) (e : Event) (past : List Event) (ack : Option Bool) → k ≡ e.kind → ack ≡ acknowledgement o past
+    → takes_back o e past ≡ (is_removal_of o k && is_some ack)
+takes_is o k e past ack says is =
+    ap (λ (x : EventKind). is_removal_of o x && acked o past) (sym says)
+    ∙ ap (λ (b : Bool). is_removal_of o k && b) (acked_is o past ∙ ap is_some (sym is))
+
+-- it leaves the hard state
+pub removal_state : (o : ℕ) (k : EventKind) (old : State) → is_removal_of o k ≡ true → hard_after o k old ≡ old
+removal_state o event.Clock old is = refl
+removal_state o (event.Program on) old is = refl
+removal_state o (event.Hard p s) old is = cc
+removal_state o (event.Downtime p change) old is = refl
+removal_state o (event.Flapping p starts) old is = refl
+removal_state o (event.Ack p sticky) old is = refl
+removal_state o (event.AckRemoved p) old is = refl
+removal_state o (event.OwnSwitch p on) old is = refl
+
 -- ---- what the filters read
 
 pub view_is : (c : Config) (zone : Zone) (o : ℕ) (settings : Object) (e : Event) (past : List Event) (found : Found) (book : BookValues)
     → IsFound c zone o settings e past found → BookFitsWithin c zone o settings e past book
-    → view_by settings found book ≡ view c zone o settings e past (problem_before c zone o settings e past) (ended_in c zone o settings e past)
+    → view_by o settings found book ≡ view c zone o settings e past (problem_before c zone o settings e past) (ended_in c zone o settings e past)
 view_is c zone o settings e past found book is fits =
     by_found ∙ ap with_ack (sym (acked_is o (e ∷ past)))
   where
     with_ack : Bool → View
     with_ack acknowledged = record (view c zone o settings e past (problem_before c zone o settings e past) (ended_in c zone o settings e past)) { acknowledged = acknowledged }
 
-    by_found : view_by settings found book ≡ with_ack (is_some (acknowledgement o (e ∷ past)))
+    by_found : view_by o settings found book ≡ with_ack (is_some (acknowledgement o (e ∷ past)))
     by_found = rw (is.program, is.after, is.host_down, is.depends, is.host_problem, fits) refl
 
 pub attempt_is : (c : Config) (zone : Zone) (o : ℕ) (settings : Object) (e : Event) (past : List Event) (found : Found) (k : Kind)
@@ -94,7 +115,7 @@ lapses_is c zone o settings e past found heard outcome is same =
 pub outcome_is : (c : Config) (zone : Zone) (o : ℕ) (settings : Object) (e : Event) (past : List Event) (found : Found) (book begun : BookValues) (k : Kind)
     → OutcomesAreByDue → IsFound c zone o settings e past found → BookFits c zone o settings past book → BookFitsWithin c zone o settings e past begun
     → tried o found (timed c book.due) ≡ Some k
-    → judged c zone o settings (view_by settings found begun) (attempt_by found k) ≡ outcome_at c zone o settings e past
+    → judged c zone o settings (view_by o settings found begun) (attempt_by found k) ≡ outcome_at c zone o settings e past
 outcome_is c zone o settings e past found book begun k laws is fits within tries =
     ap (λ v. judged c zone o settings v (attempt_by found k)) (view_is c zone o settings e past found begun is within)
     ∙ ap (judged c zone o settings (view c zone o settings e past (problem_before c zone o settings e past) (ended_in c zone o settings e past))) (attempt_is c zone o settings e past found k is)

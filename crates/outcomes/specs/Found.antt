@@ -8,8 +8,8 @@ use Rattle.due_model.specs.declared.notice.Kind.{Kind}
 use Rattle.due_model.specs.declared.rules.Attempt.{Attempt}
 use Rattle.due_model.specs.declared.rules.View.{View}
 use Rattle.due_model.specs.declared.zone.Zone.{Zone}
-use Rattle.due_model.specs.Histories.{depends_at, host_holds, repeats, status_after, waiting, with_repeat}
-use Rattle.due_model.specs.Readings.{down, is_problem_state, moment, program_on}
+use Rattle.due_model.specs.Histories.{depends_at, host_holds, is_enabled, repeats, status_after, waiting, with_repeat}
+use Rattle.due_model.specs.Readings.{down, is_hard_of, is_problem_state, moment, program_on}
 use Rattle.due_model.specs.Rules.{attempted}
 use Rattle.outcomes.specs.declared.found.Found.{Found}
 use Rattle.problem_count.specs.Book.{BookValues}
@@ -38,10 +38,10 @@ tried o found due =
     (attempted o found.event found.before due found.moment)
 
 -- what the filters read of an object with these settings and this book
-abbrev pub view_by : Object → Found → BookValues → View
-view_by settings found book = record {
+abbrev pub view_by : (o : ℕ) → Object → Found → BookValues → View
+view_by o settings found book = record {
   program = found.program;
-  enabled = settings.enabled;
+  enabled = is_enabled settings found.after.switched;
   down = nat_lt 0 found.after.depth || found.host_down;
   flapping = found.after.flapping;
   options = settings.options;
@@ -52,6 +52,7 @@ view_by settings found book = record {
   began = book.began;
   delay = settings.delay;
   last = waiting book.ended book.last;
+  renews = settings.volatile && is_hard_of o found.event;
   told = book.told;
   host_problem = found.host_problem;
 }

@@ -8,6 +8,7 @@ use Rattle.due_model.specs.declared.notice.Kind.{Kind}
 use Rattle.due_model.specs.declared.notice.Outcome.{Outcome}
 use Rattle.due_model.specs.declared.notice.Outcome.TheVariants.{Nothing, Sent, Suppressed}
 use Rattle.due_model.specs.declared.zone.Zone.{Zone}
+use Rattle.due_model.specs.Acknowledgements.{acknowledgement}
 use Rattle.due_model.specs.Limits.{last_moment}
 use Rattle.due_model.specs.Readings.{hard_after, is_problem_state, moment}
 use Rattle.due_model.specs.Receivers.{is_heard}
@@ -93,6 +94,7 @@ pub record Begins (choices : Choices) (o : ℕ) (found : Found) (old new : BookV
   pub sent : new.sent ≤ old.sent
   pub fits : (c : Config) (zone : Zone) (settings : Object) (e : Event) (past : List Event)
       → choices ≡ c.choices → found.event ≡ e.kind → found.moment ≡ moment (e ∷ past)
+      → found.before.acknowledged ≡ acknowledgement o past
       → BookFits c zone o settings past old → BookFitsWithin c zone o settings e past new
 
 -- Whatever event the old book fits within, of which this becomes, the new one fits after it.

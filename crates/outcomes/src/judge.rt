@@ -38,10 +38,10 @@ pub(crate) fn judge(
     ensures value { (settings : Object)
         → slice_get rules.now.config.now.objects object.0 ≡ Some settings
         → result ≡ with_heard true (judged rules.now.config.now rules.now.zone.now object.0
-        settings (view_by settings found.now book) (attempt_by found.now kind)) }
+        settings (view_by object.0 settings found.now book) (attempt_by found.now kind)) }
 {
     let settings = &rules.config.objects.as_slice()[usize::from(object.0)];
-    let view = view_of(settings, found, book);
+    let view = view_of(object, settings, found, book);
     let attempt = attempt_of(rules, settings, found, kind);
     let number = kind.number_after(view.sent);
     match object_verdict(view, &attempt) {
@@ -64,15 +64,15 @@ pub(crate) fn judge(
 }
 
 /// What the filters read of an object with these settings.
-fn view_of(settings: &Object, found: &Found, book: Book) -> View
-    ensures value { result ≡ view_by settings.now found.now book }
+fn view_of(object: ObjectId, settings: &Object, found: &Found, book: Book) -> View
+    ensures value { result ≡ view_by object.0 settings.now found.now book }
     ensures sent { result.sent + 1 < 2 ^ 64 }
     ensures began { result.began ≤ last_moment }
     ensures last { IfSome result.last IsLastInRange }
 {
     View {
         program: found.program,
-        enabled: settings.enabled,
+        enabled: settings.is_enabled(found.after.switched),
         down: 0 < found.after.depth || found.host_down,
         flapping: found.after.flapping,
         options: settings.options,
@@ -83,6 +83,7 @@ fn view_of(settings: &Object, found: &Found, book: Book) -> View
         began: book.began(),
         delay: settings.delay,
         last: if book.ended() { None } else { book.last() },
+        renews: settings.volatile && found.event.is_hard_of(object),
         told: book.told(),
         host_problem: found.host_problem,
     }

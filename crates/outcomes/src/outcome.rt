@@ -1,6 +1,7 @@
 //! What becomes of an object at an event.
 
-ghost use Rattle.std.specs.Prelude.{◌≡◌, ◌≤◌, ◌<◌, ◌+◌, ◌^◌, length, true};
+ghost use Rattle.std.specs.Prelude.{◌≡◌, ◌≤◌, ◌<◌, ◌+◌, ◌^◌, ◌&&◌, is_some, length, true};
+ghost use Rattle.due_model.specs.Acknowledgements.{is_removal_of};
 ghost use Rattle.due_model.specs.Limits.{last_moment};
 ghost use Rattle.outcomes.specs.Outcome.{Begins, Concludes, Decides, IsJudgement, with_heard};
 ghost use Rattle.due_model.specs.Readings.{hard_after, is_problem_state};
@@ -164,6 +165,11 @@ fn begin(choices: Choices, object: ObjectId, found: &Found, book: Book) -> Book
     ensures { Begins choices object.0 found.now book result }
 {
     fit_on();
+    if takes_back(object, found) {
+        let mut begun = book;
+        begun.release(found.moment);
+        return begun;
+    }
     match found.event {
         EventKind::Hard(named, state) => {
             if named.0 == object.0 {
@@ -176,4 +182,12 @@ fn begin(choices: Choices, object: ObjectId, found: &Found, book: Book) -> Book
         }
         _ => book,
     }
+}
+
+/// Whether the event takes back the acknowledgement of the object's problem.
+fn takes_back(object: ObjectId, found: &Found) -> bool
+    ensures { result ≡ (is_removal_of object.0 found.now.event
+        && is_some found.now.before.acknowledged) }
+{
+    found.event.is_removal_of(object) && found.before.acknowledged.is_some()
 }

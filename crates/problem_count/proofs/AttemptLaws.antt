@@ -22,9 +22,9 @@ use Rattle.due_model.specs.Readings.{is_ok_state, is_problem_of, is_problem_stat
 use Rattle.due_model.specs.Changes.{delayed}
 use Rattle.due_model.specs.declared.notice.Reach.{Reach}
 use Rattle.due_model.specs.Rules.{attempted, attempted_by_flapping, downtime_kind, failing, has_come, is_problem, same_state}
-use Rattle.due_model.specs.Histories.{gap_of, hist, notice_of, notices_sent, number_after, of_problem, outcome_of, reach_of, is_service_of, ready, repeats, status_after, timed, view, with_repeat}
+use Rattle.due_model.specs.Histories.{gap_of, hist, notice_of, notices_sent, number_after, of_problem, outcome_of, reach_of, is_service_of, ready, ready_or, repeats, status_after, timed, view, with_repeat}
 use Rattle.problem_count.specs.Book.{BookValues}
-use Rattle.problem_count.specs.Fits.{ended_in, outcome_at, problem, problem_before}
+use Rattle.problem_count.specs.Fits.{ended_in, outcome_at, problem, problem_before, released_after}
 use Rattle.problem_count.specs.Laws.{is_of_problem_attempt, OutcomesAreByDue, ClockAttemptsByDue, ProblemsRun, RepeatsRun, CountsAreFew, CountsWithinAreFew}
 
 -- whether what is attempted is a problem
@@ -67,6 +67,8 @@ attempts_problem o (event.Hard p s) old due t h =
 attempts_problem o (event.Downtime p change) old due t h = cc
 attempts_problem o (event.Flapping p starts) old due t h = cc
 attempts_problem o (event.Ack p sticky) old due t h = cc
+attempts_problem o (event.AckRemoved p) old due t h = cc
+attempts_problem o (event.OwnSwitch p on) old due t h = cc
 
 repeated_problem : (again : Bool) (attempt : Option Kind) → is_problem_kind attempt ≡ true → is_problem_kind (with_repeat again attempt) ≡ true
 repeated_problem again None h = cc
@@ -75,7 +77,7 @@ repeated_problem again (Some k) h = h
 pub problem_is_attempted : (c : Config) (zone : Zone) (o : ℕ) (object : Object) (e : Event) (past : List Event) → is_problem_of o e.kind ≡ true
     → is_of_problem_attempt (outcome_at c zone o object e past) ≡ true
 problem_is_attempted c zone o object e past h =
-    let due : Option ℕ = timed c (ready c zone object (delayed c o past) (problem c zone o object past)) in
+    let due : Option ℕ = timed c (ready_or (released_after c zone o object past) (ready c zone object (delayed c o past) (problem c zone o object past))) in
     outcome_kind c zone o object e past (problem_before c zone o object e past) (ended_in c zone o object e past)
     (with_repeat (repeats c o e.kind past && is_problem_state (hard o past)) (attempted o e.kind (status_after o past) due (moment (e ∷ past))))
     ∙ repeated_problem (repeats c o e.kind past && is_problem_state (hard o past)) (attempted o e.kind (status_after o past) due (moment (e ∷ past)))
@@ -106,7 +108,7 @@ sent_state c zone o object e past s number t gap reach is =
     sym (ap (reported (hard o (e ∷ past))) is)
     ∙ outcome_state c zone o object e past (problem_before c zone o object e past) (ended_in c zone o object e past)
     (with_repeat (repeats c o e.kind past && is_problem_state (hard o past))
-    (attempted o e.kind (status_after o past) (timed c (ready c zone object (delayed c o past) (problem c zone o object past))) (moment (e ∷ past))))
+    (attempted o e.kind (status_after o past) (timed c (ready_or (released_after c zone o object past) (ready c zone object (delayed c o past) (problem c zone o object past)))) (moment (e ∷ past))))
 
 -- what is due where no problem runs isn't asked for
 
@@ -130,12 +132,14 @@ attempted_by_due c o (event.Hard p s) old due t = refl
 attempted_by_due c o (event.Downtime p change) old due t = refl
 attempted_by_due c o (event.Flapping p starts) old due t = refl
 attempted_by_due c o (event.Ack p sticky) old due t = refl
+attempted_by_due c o (event.AckRemoved p) old due t = refl
+attempted_by_due c o (event.OwnSwitch p on) old due t = refl
 
 pub outcomes_are_by_due : OutcomesAreByDue
 outcomes_are_by_due c zone o object e past book fits =
     ap (λ (x : Option Kind). outcome_of c zone o object e past (problem_before c zone o object e past) (ended_in c zone o object e past)
     (with_repeat (repeats c o e.kind past && is_problem_state (hard o past)) x))
-    (attempted_by_due c o e.kind (status_after o past) (ready c zone object (delayed c o past) (problem c zone o object past)) (moment (e ∷ past))
+    (attempted_by_due c o e.kind (status_after o past) (ready_or (released_after c zone o object past) (ready c zone object (delayed c o past) (problem c zone o object past))) (moment (e ∷ past))
     ∙ sym (ap (λ (b : BookValues). attempted o e.kind (status_after o past) (timed c b.due) (moment (e ∷ past))) fits))
 
 come_by : (p : Bool) (due : Option ℕ) (t : ℕ)
@@ -153,7 +157,7 @@ timed_come_by true false due t = refl
 pub clock_attempts_by_due : ClockAttemptsByDue
 clock_attempts_by_due c zone o object past book t fits =
     ap (λ (b : BookValues). attempted o event.Clock (status_after o past) (timed c b.due) t) fits
-    ∙ timed_come_by c.choices.at_results (is_problem_state (hard o past)) (ready c zone object (delayed c o past) (problem c zone o object past)) t
+    ∙ timed_come_by c.choices.at_results (is_problem_state (hard o past)) (ready_or (released_after c zone o object past) (ready c zone object (delayed c o past) (problem c zone o object past))) t
     ∙ sym (ap (λ (b : BookValues). if has_come (timed c b.due) t then Some kind.Problem else None) fits)
 
 -- a problem runs where one is attempted
@@ -204,6 +208,8 @@ runs_by o (event.Downtime p change) old due t h =
 runs_by o (event.Flapping p starts) old due t h =
     absurd (not_problem (attempted o (event.Flapping p starts) old due t) (no_flapping (p.0 == o) old.flapping starts) h)
 runs_by o (event.Ack p sticky) old due t h = cc
+runs_by o (event.AckRemoved p) old due t h = cc
+runs_by o (event.OwnSwitch p on) old due t h = cc
 
 pub problems_run : ProblemsRun
 problems_run = runs_by
@@ -223,6 +229,8 @@ repeats_run c o (event.Hard p s) past h runs =
 repeats_run c o (event.Downtime p change) past h runs = runs
 repeats_run c o (event.Flapping p starts) past h runs = runs
 repeats_run c o (event.Ack p sticky) past h runs = runs
+repeats_run c o (event.AckRemoved p) past h runs = runs
+repeats_run c o (event.OwnSwitch p on) past h runs = runs
 
 -- no more notices go out than there are events
 

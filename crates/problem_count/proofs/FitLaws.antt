@@ -22,9 +22,10 @@ use Rattle.due_model.specs.declared.config.Choices.{Choices}
 use Rattle.due_model.specs.declared.notice.Reach.{Reach}
 use Rattle.due_model.specs.declared.options.OptionLetters.{OptionLetters}
 use Rattle.due_model.specs.Rules.{attempted, attempted_by_downtime, attempted_by_flapping, attempted_by_state, has_come, is_problem, next_notice, no_letter, same_state, state_letter, state_number, with_letter}
-use Rattle.due_model.specs.Histories.{down_with_host, host_holds, lapses, outcome_of, repeats, status_after, waits_a_while, with_repeat, hist, notice_of, notices_sent, last_notice, ready, retry_after, timed, told_letters}
-use Rattle.problem_count.specs.Book.{BookValues, after_hard, after_sent, new_book, retry_by}
-use Rattle.problem_count.specs.Fits.{BookFitsLapsed, BookFitsWithin, FitsNothing, HardFits, LapseFits, SentFits, SuppressedFits, UnheardFits, IsNextMoment, book_of, book_within, due_by, ended_after, ended_in, lapsed_in, lapses_at, outcome_at, problem, problem_before}
+use Rattle.due_model.specs.Histories.{down_with_host, host_holds, lapses, outcome_of, repeats, status_after, waits_a_while, with_repeat, hist, notice_of, notices_sent, last_notice, ready, ready_or, released_by, retry_after, timed, told_letters}
+use Rattle.due_model.specs.Acknowledgements.{acked, takes_back}
+use Rattle.problem_count.specs.Book.{BookValues, after_hard, after_release, after_sent, new_book, retry_by}
+use Rattle.problem_count.specs.Fits.{BookFitsLapsed, BookFitsWithin, FitsNothing, HardFits, LapseFits, SentFits, SuppressedFits, UnheardFits, ReleaseFits, IsNextMoment, book_of, book_within, due_by, released_after, released_in, ended_after, ended_in, lapsed_in, lapses_at, outcome_at, problem, problem_before}
 use Rattle.problem_count.specs.Laws.{is_hard_of, is_of_problem_attempt, OtherEventsFit, OtherOutcomesFit, UntouchedFit, touches}
 use Rattle.problem_count.proofs.AttemptLaws.{outcomes_are_by_due, problem_is_attempted, sent_state}
 
@@ -32,8 +33,9 @@ abbrev values : State → (began sent : ℕ) → Option Last → (told : OptionL
 values s began sent last told ended due = record { state = s; began = began; sent = sent; last = last; told = told; ended = ended; due = due }
 
 -- what the definitions say of an object in this state, of which the first delay runs since that moment, whose last problem had these outcomes
-abbrev book_by : Config → Zone → Object → State → (began : ℕ) → List Outcome → (ended : Bool) → BookValues
-book_by c zone object s began outcomes ended = values s began (notices_sent outcomes) (last_notice outcomes) (told_letters outcomes) ended (due_by c zone object s began outcomes)
+abbrev book_by : Config → Zone → Object → State → (began : ℕ) → (released : Option ℕ) → List Outcome → (ended : Bool) → BookValues
+book_by c zone object s began released outcomes ended =
+    values s began (notices_sent outcomes) (last_notice outcomes) (told_letters outcomes) ended (due_by c zone object s began released outcomes)
 
 pub nothing_fits : FitsNothing new_book
 unfolding hist
@@ -42,31 +44,31 @@ nothing_fits c zone o object = refl
 -- within an event
 
 -- the book within an event, that begins a problem or not, and changes the state or not, and is a hard problem state or not
-abbrev within_by : Config → Zone → Object → (hard_problem starts changed : Bool) → State → (t was : ℕ) → List Outcome → (ended : Bool) → BookValues
-within_by c zone object hard_problem starts changed s t was outcomes ended =
+abbrev within_by : Config → Zone → Object → (hard_problem starts changed : Bool) → State → (t was : ℕ) → (released : Option ℕ) → List Outcome → (ended : Bool) → BookValues
+within_by c zone object hard_problem starts changed s t was released outcomes ended =
     (λ (goes_on : List Outcome) (since : ℕ). values s since (notices_sent goes_on) (last_notice goes_on) (told_letters goes_on)
-    (ended || (c.choices.reset_wait && changed)) (if hard_problem then None else due_by c zone object s since goes_on))
+    (ended || (c.choices.reset_wait && changed)) (if hard_problem then None else due_by c zone object s since released goes_on))
     (if starts then [] else outcomes)
     (if (if c.choices.delay then changed else starts) then t else was)
 
 -- a hard state
 
 -- p tells of a problem state, and q of one before it
-begun : (c : Config) (zone : Zone) (object : Object) (s : State) (since : ℕ) (outcomes : List Outcome) (ended p q : Bool)
+begun : (c : Config) (zone : Zone) (object : Object) (s : State) (since : ℕ) (released : Option ℕ) (outcomes : List Outcome) (ended p q : Bool)
     → values s since (if p && not q then 0 else notices_sent outcomes) (if p && not q then None else last_notice outcomes)
     (if p && not q then no_letter else told_letters outcomes) ended None
     ≡ (λ (goes_on : List Outcome). values s since (notices_sent goes_on) (last_notice goes_on) (told_letters goes_on) ended
-    (if p then None else (if p then ready c zone object since goes_on else None))) (if p && not q then [] else outcomes)
-begun c zone object s since outcomes ended true true = refl
-begun c zone object s since outcomes ended true false = refl
-begun c zone object s since outcomes ended false true = refl
-begun c zone object s since outcomes ended false false = refl
+    (if p then None else (if p then ready_or released (ready c zone object since goes_on) else None))) (if p && not q then [] else outcomes)
+begun c zone object s since released outcomes ended true true = refl
+begun c zone object s since released outcomes ended true false = refl
+begun c zone object s since released outcomes ended false true = refl
+begun c zone object s since released outcomes ended false false = refl
 
 -- the book within an event that gives an object a hard state, which is this one where b says so
-abbrev within_hard : Config → Zone → Object → (s old : State) → (t was : ℕ) → List Outcome → (ended b : Bool) → BookValues
-within_hard c zone object s old t was outcomes ended b =
+abbrev within_hard : Config → Zone → Object → (s old : State) → (t was : ℕ) → (released : Option ℕ) → List Outcome → (ended b : Bool) → BookValues
+within_hard c zone object s old t was released outcomes ended b =
     within_by c zone object (b && is_problem_state s) (b && is_problem_state s && not (is_problem_state old)) (not (same_state (if b then s else old) old))
-    (if b then s else old) t was outcomes ended
+    (if b then s else old) t was released outcomes ended
 
 pub hard_fits : (choices : Choices) (s : State) (t : ℕ) (old : BookValues) → HardFits choices s t old (after_hard choices s t old)
 hard_fits choices s t old c zone o object e past fits chosen is at =
@@ -79,8 +81,8 @@ hard_fits choices s t old c zone o object e past fits chosen is at =
     ap (after_hard choices s t) fits
     ∙ ap (λ (x : Choices). after_hard x s t (book_of c zone o object past)) chosen
     ∙ ap (λ (m : ℕ). after_hard c.choices s m (book_of c zone o object past)) at
-    ∙ begun c zone object s since outcomes (over || (c.choices.reset_wait && changed)) (is_problem_state s) (is_problem_state was)
-    ∙ sym (ap (within_hard c zone object s was (moment (e ∷ past)) (delayed c o past) outcomes over) (eq-eqb o o refl))
+    ∙ begun c zone object s since (released_after c zone o object past) outcomes (over || (c.choices.reset_wait && changed)) (is_problem_state s) (is_problem_state was)
+    ∙ sym (ap (within_hard c zone object s was (moment (e ∷ past)) (delayed c o past) (released_after c zone o object past) outcomes over) (eq-eqb o o refl))
     ∙ sym (ap (λ (k : EventKind). (λ (x : Event). book_within c zone o object x past) (record { moment = e.moment; kind = k })) is)
 
 pub hard_fits_by : (choices : Choices) (s : State) (t : ℕ) (old new : BookValues) → new ≡ after_hard choices s t old → HardFits choices s t old new
@@ -101,37 +103,68 @@ still_by f t was false false false = refl
 unchanged : (s : State) → not (same_state s s) ≡ false
 unchanged s = ap not (eq-eqb (state_number s) (state_number s) refl)
 
-still : (c : Config) (zone : Zone) (object : Object) (s : State) (t was : ℕ) (outcomes : List Outcome) (ended : Bool)
-    → book_by c zone object s was outcomes ended ≡ within_by c zone object false false (not (same_state s s)) s t was outcomes ended
-still c zone object s t was outcomes ended =
-    still_by (λ since over. book_by c zone object s since outcomes over) t was c.choices.delay c.choices.reset_wait ended
-    ∙ sym (ap (λ (x : Bool). within_by c zone object false false x s t was outcomes ended) (unchanged s))
+still : (c : Config) (zone : Zone) (object : Object) (s : State) (t was : ℕ) (released : Option ℕ) (outcomes : List Outcome) (ended : Bool)
+    → book_by c zone object s was released outcomes ended ≡ within_by c zone object false false (not (same_state s s)) s t was released outcomes ended
+still c zone object s t was released outcomes ended =
+    still_by (λ since over. book_by c zone object s since released outcomes over) t was c.choices.delay c.choices.reset_wait ended
+    ∙ sym (ap (λ (x : Bool). within_by c zone object false false x s t was released outcomes ended) (unchanged s))
 
-other_within : (c : Config) (zone : Zone) (o : ℕ) (object : Object) (m : ℕ) (k : EventKind) (past : List Event) → is_hard_of o k ≡ false
-    → book_of c zone o object past ≡ (λ (e : Event). book_within c zone o object e past) (record { moment = m; kind = k })
-other_within c zone o object m k past h =
-    still c zone object (hard o past) (max (moment past) m) (delayed c o past) (problem c zone o object past) (ended_after c zone o object past) ∙ by_kind k h
-  where
-    from : BookValues
-    from = within_by c zone object false false (not (same_state (hard o past) (hard o past))) (hard o past) (max (moment past) m) (delayed c o past)
-        (problem c zone o object past) (ended_after c zone o object past)
+-- of which the acknowledgement is taken back at this event or isn't
+module _ (c : Config) (zone : Zone) (o : ℕ) (object : Object) (m : ℕ) (past : List Event) where
+  from : (takes : Bool) → BookValues
+  from takes = within_by c zone object false false (not (same_state (hard o past) (hard o past))) (hard o past) (max (moment past) m) (delayed c o past)
+      (released_by false takes (max (moment past) m) (released_after c zone o object past)) (problem c zone o object past) (ended_after c zone o object past)
 
-    by_kind : (k : EventKind) → is_hard_of o k ≡ false → from ≡ (λ (e : Event). book_within c zone o object e past) (record { moment = m; kind = k })
-    by_kind event.Clock h = refl
-    by_kind (event.Program on) h = refl
-    by_kind (event.Hard p s) h =
-        sym (ap (within_hard c zone object s (hard o past) (max (moment past) m) (delayed c o past) (problem c zone o object past) (ended_after c zone o object past)) h)
-    by_kind (event.Downtime p change) h = refl
-    by_kind (event.Flapping p starts) h = refl
-    by_kind (event.Ack p sticky) h = refl
+  at_kind : EventKind → Event
+  at_kind k = record { moment = m; kind = k }
+
+  kept_by_kind : (k : EventKind) → is_hard_of o k ≡ false → takes_back o (at_kind k) past ≡ false → from false ≡ book_within c zone o object (at_kind k) past
+  kept_by_kind event.Clock h back = refl
+  kept_by_kind (event.Program on) h back = refl
+  kept_by_kind (event.Hard p s) h back =
+      sym (ap (within_hard c zone object s (hard o past) (max (moment past) m) (delayed c o past) (released_after c zone o object past) (problem c zone o object past) (ended_after c zone o object past)) h)
+  kept_by_kind (event.Downtime p change) h back = refl
+  kept_by_kind (event.Flapping p starts) h back = refl
+  kept_by_kind (event.Ack p sticky) h back = refl
+  kept_by_kind (event.AckRemoved p) h back = sym (ap from back)
+  kept_by_kind (event.OwnSwitch p on) h back = refl
+
+  freed_by_kind : (k : EventKind) → takes_back o (at_kind k) past ≡ true → from true ≡ book_within c zone o object (at_kind k) past
+  freed_by_kind event.Clock back = cc
+  freed_by_kind (event.Program on) back = cc
+  freed_by_kind (event.Hard p s) back = cc
+  freed_by_kind (event.Downtime p change) back = cc
+  freed_by_kind (event.Flapping p starts) back = cc
+  freed_by_kind (event.Ack p sticky) back = cc
+  freed_by_kind (event.AckRemoved p) back = sym (ap from back)
+  freed_by_kind (event.OwnSwitch p on) back = cc
 
 pub other_events_fit : OtherEventsFit
-other_events_fit c zone o object e past book fits h = fits ∙ other_within c zone o object e.moment e.kind past h
+other_events_fit c zone o object e past book fits h back =
+    fits
+    ∙ still c zone object (hard o past) (max (moment past) e.moment) (delayed c o past) (released_after c zone o object past) (problem c zone o object past) (ended_after c zone o object past)
+    ∙ kept_by_kind c zone o object e.moment past e.kind h back
+
+-- an acknowledgement that is taken back
+
+pub release_fits : (t : ℕ) (old : BookValues) → ReleaseFits t old (after_release t old)
+release_fits t old c zone o object e past fits back at =
+    ap (after_release t) fits
+    ∙ ap (λ (m : ℕ). after_release m (book_of c zone o object past)) at
+    ∙ still c zone object (hard o past) (moment (e ∷ past)) (delayed c o past) (Some (moment (e ∷ past))) (problem c zone o object past) (ended_after c zone o object past)
+    ∙ freed_by_kind c zone o object e.moment past e.kind back
+
+pub release_fits_by : (t : ℕ) (old new : BookValues) → new ≡ after_release t old → ReleaseFits t old new
+release_fits_by t old new is = subst (ReleaseFits t old) (sym is) (release_fits t old)
+
+-- when an acknowledgement was taken back, after an event that was an attempt as a problem or wasn't
+abbrev released_with : Config → Zone → ℕ → Object → Event → List Event → (attempts : Bool) → Option ℕ
+released_with c zone o object e past attempts = released_by attempts (takes_back o e past) (moment (e ∷ past)) (released_after c zone o object past)
 
 -- the book of an object after an event that became this
 abbrev more_by : Config → Zone → ℕ → Object → Event → List Event → Outcome → BookValues
 more_by c zone o object e past x =
-    book_by c zone object (hard o (e ∷ past)) (delayed c o (e ∷ past)) (x ∷ problem_before c zone o object e past)
+    book_by c zone object (hard o (e ∷ past)) (delayed c o (e ∷ past)) (released_with c zone o object e past (is_of_problem_attempt x)) (x ∷ problem_before c zone o object e past)
     (not (is_some (notice_of x)) && lapsed_in c zone o object e past)
 
 book_more : (c : Config) (zone : Zone) (o : ℕ) (object : Object) (e : Event) (past : List Event)
@@ -146,32 +179,32 @@ after_outcome c zone o object e past x is = sym (ap (more_by c zone o object e p
 
 -- an outcome that is of no attempt as a problem
 
-other_sent : (c : Config) (zone : Zone) (object : Object) (s : State) (began : ℕ) (outcomes : List Outcome) (ended : Bool) (k : Kind) (now : State) (number t gap : ℕ) (reach : Reach)
-    → is_problem k ≡ false → book_by c zone object s began outcomes ended
-    ≡ book_by c zone object s began (Sent k now number t gap reach ∷ outcomes) (not (is_some (notice_of (Sent k now number t gap reach))) && ended)
-other_sent c zone object s began outcomes ended kind.Problem now number t gap reach h = cc
-other_sent c zone object s began outcomes ended kind.Recovery now number t gap reach h = refl
-other_sent c zone object s began outcomes ended kind.FlappingStart now number t gap reach h = refl
-other_sent c zone object s began outcomes ended kind.FlappingStop now number t gap reach h = refl
-other_sent c zone object s began outcomes ended kind.DowntimeStart now number t gap reach h = refl
-other_sent c zone object s began outcomes ended kind.DowntimeEnd now number t gap reach h = refl
-other_sent c zone object s began outcomes ended kind.DowntimeCancelled now number t gap reach h = refl
+other_sent : (c : Config) (zone : Zone) (object : Object) (s : State) (began : ℕ) (released : Option ℕ) (outcomes : List Outcome) (ended : Bool) (k : Kind) (now : State) (number t gap : ℕ) (reach : Reach)
+    → is_problem k ≡ false → book_by c zone object s began released outcomes ended
+    ≡ book_by c zone object s began released (Sent k now number t gap reach ∷ outcomes) (not (is_some (notice_of (Sent k now number t gap reach))) && ended)
+other_sent c zone object s began released outcomes ended kind.Problem now number t gap reach h = cc
+other_sent c zone object s began released outcomes ended kind.Recovery now number t gap reach h = refl
+other_sent c zone object s began released outcomes ended kind.FlappingStart now number t gap reach h = refl
+other_sent c zone object s began released outcomes ended kind.FlappingStop now number t gap reach h = refl
+other_sent c zone object s began released outcomes ended kind.DowntimeStart now number t gap reach h = refl
+other_sent c zone object s began released outcomes ended kind.DowntimeEnd now number t gap reach h = refl
+other_sent c zone object s began released outcomes ended kind.DowntimeCancelled now number t gap reach h = refl
 
-other_suppressed : (c : Config) (zone : Zone) (object : Object) (s : State) (began : ℕ) (outcomes : List Outcome) (ended : Bool) (k : Kind) (now : State) (number t : ℕ) (why : Filter) → is_problem k ≡ false
-    → book_by c zone object s began outcomes ended ≡ book_by c zone object s began (Suppressed k now number t why ∷ outcomes) ended
-other_suppressed c zone object s began outcomes ended kind.Problem now number t why h = cc
-other_suppressed c zone object s began outcomes ended kind.Recovery now number t why h = refl
-other_suppressed c zone object s began outcomes ended kind.FlappingStart now number t why h = refl
-other_suppressed c zone object s began outcomes ended kind.FlappingStop now number t why h = refl
-other_suppressed c zone object s began outcomes ended kind.DowntimeStart now number t why h = refl
-other_suppressed c zone object s began outcomes ended kind.DowntimeEnd now number t why h = refl
-other_suppressed c zone object s began outcomes ended kind.DowntimeCancelled now number t why h = refl
+other_suppressed : (c : Config) (zone : Zone) (object : Object) (s : State) (began : ℕ) (released : Option ℕ) (outcomes : List Outcome) (ended : Bool) (k : Kind) (now : State) (number t : ℕ) (why : Filter) → is_problem k ≡ false
+    → book_by c zone object s began released outcomes ended ≡ book_by c zone object s began released (Suppressed k now number t why ∷ outcomes) ended
+other_suppressed c zone object s began released outcomes ended kind.Problem now number t why h = cc
+other_suppressed c zone object s began released outcomes ended kind.Recovery now number t why h = refl
+other_suppressed c zone object s began released outcomes ended kind.FlappingStart now number t why h = refl
+other_suppressed c zone object s began released outcomes ended kind.FlappingStop now number t why h = refl
+other_suppressed c zone object s began released outcomes ended kind.DowntimeStart now number t why h = refl
+other_suppressed c zone object s began released outcomes ended kind.DowntimeEnd now number t why h = refl
+other_suppressed c zone object s began released outcomes ended kind.DowntimeCancelled now number t why h = refl
 
-other_outcome : (c : Config) (zone : Zone) (object : Object) (s : State) (began : ℕ) (outcomes : List Outcome) (ended : Bool) (x : Outcome) → is_of_problem_attempt x ≡ false
-    → book_by c zone object s began outcomes ended ≡ book_by c zone object s began (x ∷ outcomes) (not (is_some (notice_of x)) && ended)
-other_outcome c zone object s began outcomes ended Nothing h = refl
-other_outcome c zone object s began outcomes ended (Sent k now number t gap reach) h = other_sent c zone object s began outcomes ended k now number t gap reach h
-other_outcome c zone object s began outcomes ended (Suppressed k now number t why) h = other_suppressed c zone object s began outcomes ended k now number t why h
+other_outcome : (c : Config) (zone : Zone) (object : Object) (s : State) (began : ℕ) (released : Option ℕ) (outcomes : List Outcome) (ended : Bool) (x : Outcome) → is_of_problem_attempt x ≡ false
+    → book_by c zone object s began released outcomes ended ≡ book_by c zone object s began released (x ∷ outcomes) (not (is_some (notice_of x)) && ended)
+other_outcome c zone object s began released outcomes ended Nothing h = refl
+other_outcome c zone object s began released outcomes ended (Sent k now number t gap reach) h = other_sent c zone object s began released outcomes ended k now number t gap reach h
+other_outcome c zone object s began released outcomes ended (Suppressed k now number t why) h = other_suppressed c zone object s began released outcomes ended k now number t why h
 
 -- an event that becomes no attempt as a problem is no hard problem state of the object
 no_problem_by : (b x : Bool) → (b ≡ true → x ≡ true) → x ≡ false → b ≡ false
@@ -186,8 +219,10 @@ other_outcomes_fit c zone o object e past book fits h =
     let over = lapsed_in c zone o object e past in
     let none : is_problem_of o e.kind ≡ false = no_problem_by (is_problem_of o e.kind) (is_of_problem_attempt (outcome_at c zone o object e past)) (problem_is_attempted c zone o object e past) h in
     fits
-    ∙ ap (λ (b : Bool). values s since (notices_sent earlier) (last_notice earlier) (told_letters earlier) over (if b then None else due_by c zone object s since earlier)) none
-    ∙ other_outcome c zone object s since earlier over (outcome_at c zone o object e past) h
+    ∙ ap (λ (b : Bool). values s since (notices_sent earlier) (last_notice earlier) (told_letters earlier) over (if b then None else due_by c zone object s since (released_in c zone o object e past) earlier)) none
+    ∙ other_outcome c zone object s since (released_in c zone o object e past) earlier over (outcome_at c zone o object e past) h
+    ∙ sym (ap (λ (b : Bool). book_by c zone object s since (released_with c zone o object e past b) (outcome_at c zone o object e past ∷ earlier)
+    (not (is_some (notice_of (outcome_at c zone o object e past))) && over)) h)
     ∙ after_outcome c zone o object e past (outcome_at c zone o object e past) refl
 
 -- what becomes of an event counts for the wait
@@ -224,6 +259,18 @@ untouched_hard o (event.Hard p s) due t h = h
 untouched_hard o (event.Downtime p change) due t h = refl
 untouched_hard o (event.Flapping p starts) due t h = refl
 untouched_hard o (event.Ack p sticky) due t h = refl
+untouched_hard o (event.AckRemoved p) due t h = refl
+untouched_hard o (event.OwnSwitch p on) due t h = refl
+
+untouched_back : (o m : ℕ) (k : EventKind) (past : List Event) (due : Option ℕ) (t : ℕ) → touches o k due t ≡ false → (λ (e : Event). takes_back o e past) (record { moment = m; kind = k }) ≡ false
+untouched_back o m event.Clock past due t h = refl
+untouched_back o m (event.Program on) past due t h = refl
+untouched_back o m (event.Hard p s) past due t h = refl
+untouched_back o m (event.Downtime p change) past due t h = refl
+untouched_back o m (event.Flapping p starts) past due t h = refl
+untouched_back o m (event.Ack p sticky) past due t h = refl
+untouched_back o m (event.AckRemoved p) past due t h = ap (λ (b : Bool). b && acked o past) h
+untouched_back o m (event.OwnSwitch p on) past due t h = refl
 
 timed_out : (b : Bool) (due : Option ℕ) (t : ℕ) → has_come due t ≡ false → has_come (if b then None else due) t ≡ false
 timed_out true due t h = refl
@@ -236,6 +283,8 @@ untouched_attempt c o (event.Hard p s) old due t h = ap (λ (b : Bool). if b the
 untouched_attempt c o (event.Downtime p change) old due t h = ap (λ (b : Bool). if b then attempted_by_downtime old.depth change else None) h
 untouched_attempt c o (event.Flapping p starts) old due t h = ap (λ (b : Bool). if b then attempted_by_flapping old.flapping starts else None) h
 untouched_attempt c o (event.Ack p sticky) old due t h = refl
+untouched_attempt c o (event.AckRemoved p) old due t h = refl
+untouched_attempt c o (event.OwnSwitch p on) old due t h = refl
 
 nothing_lapses : (c : Config) (zone : Zone) (o : ℕ) (object : Object) (e : Event) (past : List Event) → outcome_at c zone o object e past ≡ Nothing
     → false ≡ lapses_at c zone o object e past
@@ -255,7 +304,8 @@ untouched_fit c zone o object e past book fits h still_host =
       nothing,
       other_outcomes_fit c zone o object e past book
           (unlapsed c zone o object e past book
-          (other_events_fit c zone o object e past book fits (untouched_hard o e.kind book.due (moment (e ∷ past)) h))
+          (other_events_fit c zone o object e past book fits (untouched_hard o e.kind book.due (moment (e ∷ past)) h)
+          (untouched_back o e.moment e.kind past book.due (moment (e ∷ past)) h))
           (nothing_lapses c zone o object e past nothing))
           (ap is_of_problem_attempt nothing),
     )
@@ -280,7 +330,7 @@ none_more s number t gap reach outcomes =
 
 -- the book after a problem notice in this state, which counts or not
 abbrev sent_by : Config → Zone → Object → State → (began : ℕ) → List Outcome → (ended : Bool) → Outcome → BookValues
-sent_by c zone object s began outcomes ended x = book_by c zone object s began (x ∷ outcomes) (not (is_some (notice_of x)) && ended)
+sent_by c zone object s began outcomes ended x = book_by c zone object s began None (x ∷ outcomes) (not (is_some (notice_of x)) && ended)
 
 sent_more : (c : Config) (zone : Zone) (object : Object) (s now : State) (began number t gap : ℕ) (reach : Reach) (outcomes : List Outcome) (ended : Bool) → is_problem_state s ≡ true → now ≡ s
     → values s began (notices_sent outcomes + 1) (Some (record { state = s; moment = t; gap = gap })) (with_letter (state_letter s) (told_letters outcomes)) false (next_notice t gap)

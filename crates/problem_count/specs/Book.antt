@@ -63,6 +63,10 @@ after_hard choices s t book = record {
   due = None;
 }
 
+-- the book once the acknowledgement of the problem is taken back at moment t
+abbrev pub after_release : (t : ℕ) → BookValues → BookValues
+after_release t book = record book { due = if is_problem_state book.state then Some t else None }
+
 -- the book after a problem notice that counts, at moment t with this gap
 abbrev pub after_sent : (t gap : ℕ) → BookValues → BookValues
 after_sent t gap book = record {

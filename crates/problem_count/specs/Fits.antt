@@ -16,7 +16,8 @@ use Rattle.due_model.specs.declared.zone.Zone.{Zone}
 use Rattle.due_model.specs.Periods.{next_in}
 use Rattle.due_model.specs.Readings.{hard, is_problem_of, is_problem_state, moment}
 use Rattle.due_model.specs.Changes.{delayed}
-use Rattle.due_model.specs.Histories.{before, down_with_host, ended, ended_at, hist, host_holds, lapses, waits_a_while, last_notice, notices_sent, of_problem, outcome, ready, told_letters}
+use Rattle.due_model.specs.Histories.{before, down_with_host, ended, ended_at, hist, host_holds, lapses, waits_a_while, last_notice, notices_sent, of_problem, outcome, ready, ready_or, released, released_by, told_letters}
+use Rattle.due_model.specs.Acknowledgements.{takes_back}
 use Rattle.problem_count.specs.Book.{BookValues}
 
 -- the outcomes of the object's last problem, the newest first
@@ -31,11 +32,21 @@ problem_before c zone o object e past = before o e past (hist c zone o object pa
 abbrev pub outcome_at : Config → Zone → ℕ → Object → Event → List Event → Outcome
 outcome_at c zone o object e past = outcome c zone o object e past (hist c zone o object past)
 
--- Ready, of an object in this state whose last problem began at that moment and had these outcomes; never, where no
--- problem runs
-abbrev pub due_by : Config → Zone → Object → State → (began : ℕ) → List Outcome → Option ℕ
-due_by c zone object s began outcomes =
-    if is_problem_state s then ready c zone object began outcomes else None
+-- Ready, of an object in this state whose first delay runs since that moment and whose last problem had these outcomes,
+-- where an acknowledgement was taken back since or wasn't; never, where no problem runs
+abbrev pub due_by : Config → Zone → Object → State → (began : ℕ) → (released : Option ℕ)
+    → List Outcome → Option ℕ
+due_by c zone object s began released outcomes =
+    if is_problem_state s then ready_or released (ready c zone object began outcomes) else None
+
+-- when an acknowledgement was taken back, with no attempt as a problem since
+abbrev pub released_after : Config → Zone → ℕ → Object → List Event → Option ℕ
+released_after c zone o object past = released o past (hist c zone o object past)
+
+-- likewise, within an event
+abbrev pub released_in : Config → Zone → ℕ → Object → Event → List Event → Option ℕ
+released_in c zone o object e past =
+    released_by false (takes_back o e past) (moment (e ∷ past)) (released_after c zone o object past)
 
 -- whether the wait after the last notice was ended since
 abbrev pub ended_after : Config → Zone → ℕ → Object → List Event → Bool
@@ -67,7 +78,8 @@ book_of c zone o object past = record {
   last = last_notice (problem c zone o object past);
   told = told_letters (problem c zone o object past);
   ended = ended_after c zone o object past;
-  due = due_by c zone object (hard o past) (delayed c o past) (problem c zone o object past);
+  due = due_by c zone object (hard o past) (delayed c o past) (released_after c zone o object past)
+      (problem c zone o object past);
 }
 
 -- the book within an event, before what becomes of it: with nothing due, where the event is a hard problem state
@@ -82,6 +94,7 @@ book_within c zone o object e past = record {
   due = if is_problem_of o e.kind
       then None
       else due_by c zone object (hard o (e ∷ past)) (delayed c o (e ∷ past))
+      (released_in c zone o object e past)
       (problem_before c zone o object e past);
 }
 
@@ -118,6 +131,15 @@ HardFits choices s t old new =
     (c : Config) (zone : Zone) (o : ℕ) (object : Object) (e : Event) (past : List Event)
     → BookFits c zone o object past old
     → choices ≡ c.choices → e.kind ≡ Hard (record { 0 = o }) s → t ≡ moment (e ∷ past)
+    → BookFitsWithin c zone o object e past new
+
+-- Whatever past the old book fits, the new one fits within the event that takes back the acknowledgement of the problem
+-- at t.
+abbrev pub ReleaseFits : (t : ℕ) → (old new : BookValues) → Type 0
+ReleaseFits t old new =
+    (c : Config) (zone : Zone) (o : ℕ) (object : Object) (e : Event) (past : List Event)
+    → BookFits c zone o object past old
+    → takes_back o e past ≡ true → t ≡ moment (e ∷ past)
     → BookFitsWithin c zone o object e past new
 
 -- Whatever event the old book fits within, of which a problem notice goes out at t with this gap and counts, the new
@@ -172,4 +194,5 @@ DueIsReady book due =
     (c : Config) (zone : Zone) (o : ℕ) (object : Object) (past : List Event)
     → BookFits c zone o object past book
     → is_problem_state (hard o past) ≡ true
-    → due ≡ ready c zone object (delayed c o past) (problem c zone o object past)
+    → due ≡ ready_or (released_after c zone o object past)
+    (ready c zone object (delayed c o past) (problem c zone o object past))

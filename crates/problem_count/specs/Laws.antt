@@ -4,36 +4,28 @@ use Rattle.due_model.specs.declared.config.Config.{Config}
 use Rattle.due_model.specs.declared.config.Object.{Object}
 use Rattle.due_model.specs.declared.event.Event.{Event}
 use Rattle.due_model.specs.declared.event.EventKind.{EventKind}
-use Rattle.due_model.specs.declared.event.EventKind.TheVariants.{Clock, Program, Hard, Downtime, Flapping, Ack}
+use Rattle.due_model.specs.declared.event.EventKind.TheVariants.{Clock, Program, Hard, Downtime, Flapping, Ack, AckRemoved, OwnSwitch}
 use Rattle.due_model.specs.declared.notice.Kind.TheVariants.{Problem}
-use Rattle.due_model.specs.declared.notice.Outcome.{Outcome}
-use Rattle.due_model.specs.declared.notice.Outcome.TheVariants.{Nothing, Sent, Suppressed}
+use Rattle.due_model.specs.declared.notice.Outcome.TheVariants.{Nothing}
 use Rattle.due_model.specs.declared.rules.ObjectStatus.{ObjectStatus}
 use Rattle.due_model.specs.declared.zone.Zone.{Zone}
+pub use Rattle.due_model.specs.Readings.{is_hard_of}
 use Rattle.due_model.specs.Readings.{hard, hard_after, is_problem_state, moment}
-use Rattle.due_model.specs.Rules.{attempted, has_come, is_problem}
+use Rattle.due_model.specs.Acknowledgements.{takes_back}
+use Rattle.due_model.specs.Rules.{attempted, has_come}
+pub use Rattle.due_model.specs.Histories.{is_of_problem_attempt}
 use Rattle.due_model.specs.Histories.{outcome_of, repeats, status_after, timed, with_repeat}
 use Rattle.problem_count.specs.Book.{BookValues}
 use Rattle.problem_count.specs.Fits.{BookFits, BookFitsLapsed, BookFitsWithin, ended_in, outcome_at, problem_before}
 
--- whether an event gives object o a hard state
-abbrev pub is_hard_of : ℕ → EventKind → Bool
-is_hard_of o (Hard p s) = p.0 == o
-is_hard_of o k = false
-
--- whether an outcome is of an attempt as a problem
-abbrev pub is_of_problem_attempt : Outcome → Bool
-is_of_problem_attempt Nothing = false
-is_of_problem_attempt (Sent k s number t gap reach) = is_problem k
-is_of_problem_attempt (Suppressed k s number t why) = is_problem k
-
--- within an event that gives the object no hard state a book still fits
+-- within an event that gives the object no hard state and takes no acknowledgement back a book still fits
 abbrev pub OtherEventsFit : Type 0
 OtherEventsFit =
     (c : Config) (zone : Zone) (o : ℕ) (object : Object) (e : Event) (past : List Event)
     (book : BookValues)
     → BookFits c zone o object past book
     → is_hard_of o e.kind ≡ false
+    → takes_back o e past ≡ false
     → BookFitsWithin c zone o object e past book
 
 -- a book fits after an event that becomes no attempt as a problem
@@ -53,6 +45,8 @@ touches o (Hard p s) due t = p.0 == o
 touches o (Downtime p change) due t = p.0 == o
 touches o (Flapping p starts) due t = p.0 == o
 touches o (Ack p sticky) due t = p.0 == o
+touches o (AckRemoved p) due t = p.0 == o
+touches o (OwnSwitch p on) due t = p.0 == o
 
 -- Of an event that doesn't touch the object nothing becomes, and the book fits on.
 abbrev pub UntouchedFit : Type 0

@@ -4,10 +4,10 @@ ghost use Rattle.std.specs.Prelude.{◌≡◌, ◌+◌, ◌^◌, ◌<◌, ◌≤
 ghost use Rattle.due_model.specs.Limits.{last_moment};
 ghost use Rattle.due_model.specs.Readings.{is_problem_state};
 ghost use Rattle.problem_count.specs.Book.{longest_gap, LastIsInRange, new_book};
-ghost use Rattle.problem_count.specs.Book.{after_hard, after_sent, number_of, retry_by};
+ghost use Rattle.problem_count.specs.Book.{after_hard, after_release, after_sent, number_of, retry_by};
 ghost use Rattle.problem_count.specs.Fits.{FitsNothing, HardFits, SentFits, LapseFits, SuppressedFits, UnheardFits};
 ghost use Rattle.due_model.specs.Histories.{waits_a_while};
-ghost use Rattle.problem_count.specs.Fits.{DueIsReady, NumberIsNext};
+ghost use Rattle.problem_count.specs.Fits.{DueIsReady, NumberIsNext, ReleaseFits};
 
 use due_model::config::Choices;
 use due_model::notice::Filter;
@@ -115,6 +115,16 @@ impl Book {
             ended: self.ended || (choices.reset_wait && changes),
             due: None,
         }
+    }
+
+    /// The acknowledgement of the problem is taken back at moment `t`: from then on the clock attempts it again, if it runs.
+    /// This is told before what becomes of the event.
+    pub fn release(&mut self, t: u64)
+        requires { t ≤ last_moment }
+        ensures values { self.new ≡ after_release t self.old }
+        ensures fits { ReleaseFits t self.old self.new }
+    {
+        self.due = if self.is_running() { Some(t) } else { None };
     }
 
     /// What becomes of an event ends the wait after the last notice, if its gap isn't 0, or doesn't. This is told before

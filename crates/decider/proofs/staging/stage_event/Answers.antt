@@ -58,6 +58,30 @@ returns-in-Ack-clause-books c = on_ok_weaker c.stage_owned-in-Ack.result (λ add
     ∙ sym (named_books c.fit_on.ensures.untouched (values c.args.reading.now c.args.dependencies.now c.args.statuses.now) e past is c.in-Ack.object (ap named_by c.in-Ack.is)
     (none_again c.args.reading.now.rules.config.now e.kind past (sym (ap hard_by is.says) ∙ ap hard_by c.in-Ack.is)))) c.stage_owned-in-Ack.ensures.staged
 
+pub returns-in-AckRemoved-clause-entries : goal.returns-in-AckRemoved-clause-entries
+returns-in-AckRemoved-clause-entries c = on_ok_weaker c.stage_owned-in-AckRemoved.result (λ adds e past is.
+    first_entries _ _ _ _ c.clear.ensures.entries (adds e past is)
+    ∙ sym (named_entries c.fit_on.ensures.untouched (values c.args.reading.now c.args.dependencies.now c.args.statuses.now) e past is c.in-AckRemoved.object (ap named_by c.in-AckRemoved.is)
+    (none_again c.args.reading.now.rules.config.now e.kind past (sym (ap hard_by is.says) ∙ ap hard_by c.in-AckRemoved.is)))) c.stage_owned-in-AckRemoved.ensures.staged
+
+pub returns-in-AckRemoved-clause-books : goal.returns-in-AckRemoved-clause-books
+returns-in-AckRemoved-clause-books c = on_ok_weaker c.stage_owned-in-AckRemoved.result (λ adds e past is.
+    first_books _ _ _ _ c.clear.ensures.books (adds e past is)
+    ∙ sym (named_books c.fit_on.ensures.untouched (values c.args.reading.now c.args.dependencies.now c.args.statuses.now) e past is c.in-AckRemoved.object (ap named_by c.in-AckRemoved.is)
+    (none_again c.args.reading.now.rules.config.now e.kind past (sym (ap hard_by is.says) ∙ ap hard_by c.in-AckRemoved.is)))) c.stage_owned-in-AckRemoved.ensures.staged
+
+pub returns-in-OwnSwitch-clause-entries : goal.returns-in-OwnSwitch-clause-entries
+returns-in-OwnSwitch-clause-entries c = on_ok_weaker c.stage_owned-in-OwnSwitch.result (λ adds e past is.
+    first_entries _ _ _ _ c.clear.ensures.entries (adds e past is)
+    ∙ sym (named_entries c.fit_on.ensures.untouched (values c.args.reading.now c.args.dependencies.now c.args.statuses.now) e past is c.in-OwnSwitch.object (ap named_by c.in-OwnSwitch.is)
+    (none_again c.args.reading.now.rules.config.now e.kind past (sym (ap hard_by is.says) ∙ ap hard_by c.in-OwnSwitch.is)))) c.stage_owned-in-OwnSwitch.ensures.staged
+
+pub returns-in-OwnSwitch-clause-books : goal.returns-in-OwnSwitch-clause-books
+returns-in-OwnSwitch-clause-books c = on_ok_weaker c.stage_owned-in-OwnSwitch.result (λ adds e past is.
+    first_books _ _ _ _ c.clear.ensures.books (adds e past is)
+    ∙ sym (named_books c.fit_on.ensures.untouched (values c.args.reading.now c.args.dependencies.now c.args.statuses.now) e past is c.in-OwnSwitch.object (ap named_by c.in-OwnSwitch.is)
+    (none_again c.args.reading.now.rules.config.now e.kind past (sym (ap hard_by is.says) ∙ ap hard_by c.in-OwnSwitch.is)))) c.stage_owned-in-OwnSwitch.ensures.staged
+
 pub stage_owned-requires : goal.stage_owned-requires
 stage_owned-requires c = record {
   at = c.requires.at;
@@ -77,4 +101,18 @@ stage_owned-in-Ack-requires c = record {
   at = c.requires.at;
   touched = λ e past settings is at. named_touched (values c.args.reading.now c.args.dependencies.now c.args.statuses.now) e past is c.in-Ack.object settings (ap named_by c.in-Ack.is);
   object = named_within c.args.reading.now.rules.config.now c.requires.at.0.kind c.requires.at.2.proper.kind c.in-Ack.object (sym (ap named_by c.requires.at.2.says) ∙ ap named_by c.in-Ack.is);
+}
+
+pub stage_owned-in-AckRemoved-requires : goal.stage_owned-in-AckRemoved-requires
+stage_owned-in-AckRemoved-requires c = record {
+  at = c.requires.at;
+  touched = λ e past settings is at. named_touched (values c.args.reading.now c.args.dependencies.now c.args.statuses.now) e past is c.in-AckRemoved.object settings (ap named_by c.in-AckRemoved.is);
+  object = named_within c.args.reading.now.rules.config.now c.requires.at.0.kind c.requires.at.2.proper.kind c.in-AckRemoved.object (sym (ap named_by c.requires.at.2.says) ∙ ap named_by c.in-AckRemoved.is);
+}
+
+pub stage_owned-in-OwnSwitch-requires : goal.stage_owned-in-OwnSwitch-requires
+stage_owned-in-OwnSwitch-requires c = record {
+  at = c.requires.at;
+  touched = λ e past settings is at. named_touched (values c.args.reading.now c.args.dependencies.now c.args.statuses.now) e past is c.in-OwnSwitch.object settings (ap named_by c.in-OwnSwitch.is);
+  object = named_within c.args.reading.now.rules.config.now c.requires.at.0.kind c.requires.at.2.proper.kind c.in-OwnSwitch.object (sym (ap named_by c.requires.at.2.says) ∙ ap named_by c.in-OwnSwitch.is);
 }
