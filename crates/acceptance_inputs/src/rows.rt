@@ -98,6 +98,7 @@ pub struct ObjectRow {
     pub period: Option<PeriodId>,
     pub interval: u32,
     pub delay: u32,
+    pub volatile: bool,
     pub contacts: &'static [ContactId],
 }
 
@@ -111,6 +112,7 @@ impl ObjectRow {
         period: None,
         interval: 60,
         delay: 0,
+        volatile: false,
         contacts: &[],
     };
 }
@@ -218,6 +220,7 @@ fn object(alloc: Global, row: &ObjectRow) -> Result<Object, AllocError>
         period: row.period,
         interval: row.interval,
         delay: row.delay,
+        volatile: row.volatile,
         contacts: ContactList::new(alloc, row.contacts)?,
     })
 }

@@ -54,6 +54,7 @@ const OPEN: View = View {
         moment: 100,
         gap: 60,
     }),
+    renews: false,
     told: OptionLetters::NONE,
     host_problem: false,
 };

@@ -48,7 +48,7 @@ object_filter c zone v a f is =
     ∷ (is_of_problem a.kind && v.depends, why.Dependency)
     ∷ (is_problem a.kind && v.acknowledged, why.Acknowledged)
     ∷ (is_problem a.kind && v.sent == 0 && nat_lt a.moment (v.began + 60 * v.delay), why.FirstDelay)
-    ∷ (is_problem a.kind && is_too_soon v.last a.state a.moment, why.Interval)
+    ∷ (is_problem a.kind && not v.renews && is_too_soon v.last a.state a.moment, why.Interval)
     ∷ (is_of_problem a.kind && v.host_problem, why.HostDown)
     ∷ [])
     (refl, (refl, (refl, (refl, (refl, (refl, (refl, (refl, (refl, (refl, (refl, (refl, tt)))))))))))) f is

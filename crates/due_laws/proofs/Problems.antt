@@ -23,7 +23,7 @@ use Rattle.due_model.specs.declared.notice.Reach.{Reach}
 use Rattle.due_model.specs.Due.{due_for, due_at, notices}
 use Rattle.due_laws.specs.Laws.{last_problem, notice_number, number_carried, up_to, WaitsAreOwn}
 use Rattle.due_laws.proofs.EachNotice.{SentGives, notices_each, due_for_each, due_at_each}
-use Rattle.due_model.specs.Readings.{begins}
+use Rattle.due_model.specs.Readings.{begins, is_hard_of}
 use Rattle.due_model.specs.declared.rules.Attempt.{Attempt}
 use Rattle.due_model.specs.declared.rules.Last.{Last}
 use Rattle.due_model.specs.Rules.{has_come, is_problem, is_recovery, is_too_soon, next_notice, same_state}
@@ -60,15 +60,15 @@ spaced_by last a h same =
     come_by (last.gap == 0) last.gap last.moment a.moment refl come
 
 -- how a notice that goes out follows the outcomes of its problem before it
-pub record SentFollows (c : Config) (k : Kind) (s : State) (number m : ℕ) (earlier : List Outcome) : Type 0 where
+pub record SentFollows (c : Config) (object : Object) (k : Kind) (s : State) (number m : ℕ) (earlier : List Outcome) : Type 0 where
   pub numbered : is_problem k ≡ true → number ≡ notices_sent earlier + 1
-  pub spaced : WaitsAreOwn c → is_problem k ≡ true → (last : Last) → last_notice earlier ≡ Some last → last.state ≡ s → (0 < last.gap) × (last.moment + last.gap ≤ m)
+  pub spaced : WaitsAreOwn c object → is_problem k ≡ true → (last : Last) → last_notice earlier ≡ Some last → last.state ≡ s → (0 < last.gap) × (last.moment + last.gap ≤ m)
   pub recovers : is_recovery k ≡ true → 0 < notices_sent earlier
 
-abbrev pub Follows : Config → Outcome → List Outcome → Type 0
-Follows c Nothing earlier = Unit {0}
-Follows c (Sent k s number m gap reach) earlier = SentFollows c k s number m earlier
-Follows c (Suppressed k s number m f) earlier = Unit {0}
+abbrev pub Follows : Config → Object → Outcome → List Outcome → Type 0
+Follows c object Nothing earlier = Unit {0}
+Follows c object (Sent k s number m gap reach) earlier = SentFollows c object k s number m earlier
+Follows c object (Suppressed k s number m f) earlier = Unit {0}
 
 number_of_problem : (k : Kind) (sent : ℕ) → is_problem k ≡ true → number_after sent k ≡ sent + 1
 number_of_problem kind.Problem sent h = refl
@@ -80,16 +80,17 @@ number_of_problem kind.DowntimeEnd sent h = cc
 number_of_problem kind.DowntimeCancelled sent h = cc
 
 pub sent_follows : (c : Config) (zone : Zone) (o : ℕ) (object : Object) (e : Event) (past : List Event) (earlier : List Outcome) (over : Bool) (k : Kind)
-    → (WaitsAreOwn c → over ≡ false)
+    → (WaitsAreOwn c object → over ≡ false)
     → Passes (view c zone o object e past earlier over) (attempt_at o e past k)
-    → SentFollows c k (attempt_at o e past k).state (number_after (notices_sent earlier) k) (attempt_at o e past k).moment earlier
+    → SentFollows c object k (attempt_at o e past k).state (number_after (notices_sent earlier) k) (attempt_at o e past k).moment earlier
 sent_follows c zone o object e past earlier over k goes_on passes = record {
   numbered = λ h. number_of_problem k (notices_sent earlier) h;
   spaced = λ own h last is same.
       let a = attempt_at o e past k in
       let soon : is_too_soon (last_notice earlier) a.state a.moment ≡ false =
       sym (ap (λ b. is_too_soon (waiting b (last_notice earlier)) a.state a.moment) (goes_on own))
-      ∙ and_second (is_problem k) (is_too_soon (waiting over (last_notice earlier)) a.state a.moment) passes.interval h in
+      ∙ and_second (is_problem k && not (object.volatile && is_hard_of o e.kind)) (is_too_soon (waiting over (last_notice earlier)) a.state a.moment) passes.interval
+      (ap₂ (λ x y. x && not (y && is_hard_of o e.kind)) h own.not_volatile) in
       spaced_by last a (ap (λ x. is_too_soon x a.state a.moment) (sym is) ∙ soon) (sym same);
   recovers = λ h.
       let none = and_second (is_recovery k) (notices_sent earlier == 0) passes.sent h in
@@ -109,70 +110,70 @@ no_and : (a b : Bool) → b ≡ false → (a && b) ≡ false
 no_and true b h = h
 no_and false b h = refl
 
-never_lapses : (c : Config) (zone : Zone) (object : Object) (down held : Bool) (x : Outcome) → WaitsAreOwn c → lapses c zone object down held x ≡ false
+never_lapses : (c : Config) (zone : Zone) (object : Object) (down held : Bool) (x : Outcome) → WaitsAreOwn c object → lapses c zone object down held x ≡ false
 never_lapses c zone object down held Nothing own = refl
 never_lapses c zone object down held (Sent k s number m gap reach) own = refl
 never_lapses c zone object down held (Suppressed k s number m f) own =
     no_and (not (is_problem k && held)) _ (or_false _ _ (and_no c.choices.period_wait _ own.no_period) (and_no c.choices.downtime_wait _ own.no_downtime))
 
-never_within : (c : Config) (o : ℕ) (e : Event) (past : List Event) (over : Bool) → WaitsAreOwn c → over ≡ false → ended_within c o e past over ≡ false
-never_within c o e past over own h = or_false over _ h (and_no c.choices.reset_wait _ own.no_reset)
+never_within : (c : Config) (object : Object) (o : ℕ) (e : Event) (past : List Event) (over : Bool) → WaitsAreOwn c object → over ≡ false → ended_within c o e past over ≡ false
+never_within c object o e past over own h = or_false over _ h (and_no c.choices.reset_wait _ own.no_reset)
 
-never_ended : (c : Config) (zone : Zone) (o : ℕ) (object : Object) (past : List Event) (history : List Outcome) → WaitsAreOwn c → ended c zone o object past history ≡ false
+never_ended : (c : Config) (zone : Zone) (o : ℕ) (object : Object) (past : List Event) (history : List Outcome) → WaitsAreOwn c object → ended c zone o object past history ≡ false
 never_ended c zone o object [] history own = refl
 never_ended c zone o object (e ∷ past) [] own = refl
 never_ended c zone o object (e ∷ past) (x ∷ history) own =
     no_and (not (is_some (notice_of x))) _
-    (or_false (ended_within c o e past (ended c zone o object past history)) _ (never_within c o e past _ own (never_ended c zone o object past history own))
+    (or_false (ended_within c o e past (ended c zone o object past history)) _ (never_within c object o e past _ own (never_ended c zone o object past history own))
     (and_no (lapses c zone object (down_with_host o object (e ∷ past)) (host_holds c object (e ∷ past)) x) _
     (never_lapses c zone object (down_with_host o object (e ∷ past)) (host_holds c object (e ∷ past)) x own)))
 
-never_at : (c : Config) (zone : Zone) (o : ℕ) (object : Object) (e : Event) (past : List Event) (history : List Outcome) → WaitsAreOwn c → ended_at c zone o object e past history ≡ false
-never_at c zone o object e past history own = never_within c o e past (ended c zone o object past history) own (never_ended c zone o object past history own)
+never_at : (c : Config) (zone : Zone) (o : ℕ) (object : Object) (e : Event) (past : List Event) (history : List Outcome) → WaitsAreOwn c object → ended_at c zone o object e past history ≡ false
+never_at c zone o object e past history own = never_within c object o e past (ended c zone o object past history) own (never_ended c zone o object past history own)
 
 outcome_follows : (c : Config) (zone : Zone) (o : ℕ) (object : Object) (e : Event) (past : List Event) (history : List Outcome)
-    → Follows c (outcome c zone o object e past history) (before o e past history)
+    → Follows c object (outcome c zone o object e past history) (before o e past history)
 outcome_follows c zone o object e past history =
     let earlier = before o e past history in
-    outcome_cases c zone o object e past history (λ x. Follows c x earlier) tt
+    outcome_cases c zone o object e past history (λ x. Follows c object x earlier) tt
     (λ k none. sent_follows c zone o object e past earlier (ended_at c zone o object e past history) k (never_at c zone o object e past history)
     (passes_from_none c zone (view c zone o object e past earlier (ended_at c zone o object e past history)) (attempt_at o e past k) none))
     (λ k f. tt)
 
 -- each outcome follows those before it
-abbrev pub EachFollows : Config → List Outcome → Type 0
-EachFollows c [] = Unit {0}
-EachFollows c (x ∷ rest) = Follows c x rest × EachFollows c rest
+abbrev pub EachFollows : Config → Object → List Outcome → Type 0
+EachFollows c object [] = Unit {0}
+EachFollows c object (x ∷ rest) = Follows c object x rest × EachFollows c object rest
 
-pub problem_follows : (c : Config) (zone : Zone) (o : ℕ) (object : Object) (past : List Event) → EachFollows c (last_problem c zone o object past)
+pub problem_follows : (c : Config) (zone : Zone) (o : ℕ) (object : Object) (past : List Event) → EachFollows c object (last_problem c zone o object past)
 problem_follows c zone o object [] = tt
 problem_follows c zone o object (e ∷ past) =
     let history = hist c zone o object past in
-    subst (EachFollows c) (sym (last_problem-cons c zone o object e past)) (
+    subst (EachFollows c object) (sym (last_problem-cons c zone o object e past)) (
       outcome_follows c zone o object e past history,
-      cond_both (begins o e past) [] (of_problem o past history) (EachFollows c) (λ _. tt) (λ _. problem_follows c zone o object past),
+      cond_both (begins o e past) [] (of_problem o past history) (EachFollows c object) (λ _. tt) (λ _. problem_follows c zone o object past),
     )
 
 -- an outcome is no problem notice, or one that is numbered and keeps the gap of the one before it
-record IsNext (c : Config) (x : Outcome) (rest : List Outcome) (now : Last) (number : ℕ) : Type 0 where
+record IsNext (c : Config) (object : Object) (x : Outcome) (rest : List Outcome) (now : Last) (number : ℕ) : Type 0 where
   notice : notice_of x ≡ Some now
   numbered : notice_number x ≡ Some number
   next : number ≡ notices_sent rest + 1
-  spaced : WaitsAreOwn c → (last : Last) → last_notice rest ≡ Some last → last.state ≡ now.state → (0 < last.gap) × (last.moment + last.gap ≤ now.moment)
+  spaced : WaitsAreOwn c object → (last : Last) → last_notice rest ≡ Some last → last.state ≡ now.state → (0 < last.gap) × (last.moment + last.gap ≤ now.moment)
 
 record IsNone (x : Outcome) : Type 0 where
   notice : notice_of x ≡ None
   numbered : notice_number x ≡ None
 
-abbrev Told : Config → Outcome → List Outcome → Type 0
-Told c x rest = IsNone x ⊎ ((now : Last) × (number : ℕ) × IsNext c x rest now number)
+abbrev Told : Config → Object → Outcome → List Outcome → Type 0
+Told c object x rest = IsNone x ⊎ ((now : Last) × (number : ℕ) × IsNext c object x rest now number)
 
 first_of : (a b : Bool) → (a && b) ≡ true → a ≡ true
 first_of true b h = refl
 first_of false b h = cc
 
-told_by : (c : Config) (b : Bool) (k : Kind) (s : State) (number m gap : ℕ) (reach : Reach) (rest : List Outcome) → (is_problem k && reach.heard) ≡ b → SentFollows c k s number m rest → Told c (Sent k s number m gap reach) rest
-told_by c true k s number m gap reach rest is h =
+told_by : (c : Config) (object : Object) (b : Bool) (k : Kind) (s : State) (number m gap : ℕ) (reach : Reach) (rest : List Outcome) → (is_problem k && reach.heard) ≡ b → SentFollows c object k s number m rest → Told c object (Sent k s number m gap reach) rest
+told_by c object true k s number m gap reach rest is h =
     let now : Last = record { state = s; moment = m; gap = gap } in
     inr (
       now,
@@ -184,14 +185,14 @@ told_by c true k s number m gap reach rest is h =
         spaced = λ own. h.spaced own (first_of (is_problem k) reach.heard is);
       },
     )
-told_by c false k s number m gap reach rest is h =
+told_by c object false k s number m gap reach rest is h =
     let now : Last = record { state = s; moment = m; gap = gap } in
     inl (record { notice = ap (λ t. if t then Some now else None) is; numbered = ap (λ t. if t then Some number else None) is })
 
-told_of : (c : Config) (x : Outcome) (rest : List Outcome) → Follows c x rest → Told c x rest
-told_of c Nothing rest h = inl (record { notice = refl; numbered = refl })
-told_of c (Sent k s number m gap reach) rest h = told_by c (is_problem k && reach.heard) k s number m gap reach rest refl h
-told_of c (Suppressed k s number m f) rest h = inl (record { notice = refl; numbered = refl })
+told_of : (c : Config) (object : Object) (x : Outcome) (rest : List Outcome) → Follows c object x rest → Told c object x rest
+told_of c object Nothing rest h = inl (record { notice = refl; numbered = refl })
+told_of c object (Sent k s number m gap reach) rest h = told_by c object (is_problem k && reach.heard) k s number m gap reach rest refl h
+told_of c object (Suppressed k s number m f) rest h = inl (record { notice = refl; numbered = refl })
 
 -- the numbers go up by one
 
@@ -209,11 +210,11 @@ listed_is : (x : Outcome) (number : Option ℕ) → notice_number x ≡ number �
 listed_is x None h = rw h refl
 listed_is x (Some n) h = rw h refl
 
-numbers_more : (c : Config) (x : Outcome) (rest : List Outcome) → Told c x rest → numbers_of rest ≡ range_with_len 1 (notices_sent rest) → numbers_of (x ∷ rest) ≡ range_with_len 1 (notices_sent (x ∷ rest))
-numbers_more c x rest (inl none) so_far =
+numbers_more : (c : Config) (object : Object) (x : Outcome) (rest : List Outcome) → Told c object x rest → numbers_of rest ≡ range_with_len 1 (notices_sent rest) → numbers_of (x ∷ rest) ≡ range_with_len 1 (notices_sent (x ∷ rest))
+numbers_more c object x rest (inl none) so_far =
     let sent : notices_sent (x ∷ rest) ≡ notices_sent rest = notices_sent-cons x rest ∙ ap (λ o. cond (is_some o) 1 0 + notices_sent rest) none.notice ∙ zero-add (notices_sent rest) in
     numbers-cons x rest ∙ ap (λ xs. numbers_of rest ++ xs) (listed_is x None none.numbered) ∙ append-nil (numbers_of rest) ∙ so_far ∙ ap (range_with_len 1) (sym sent)
-numbers_more c x rest (inr told) so_far =
+numbers_more c object x rest (inr told) so_far =
     let n = notices_sent rest in
     let counted : Option Last → ℕ = λ o. cond (is_some o) 1 0 in
     let one : counted (notice_of x) ≡ counted (Some told.0) = ap counted told.2.notice in
@@ -225,9 +226,9 @@ numbers_more c x rest (inr told) so_far =
     ∙ sym (range_more 1 n)
     ∙ ap (range_with_len 1) (sym sent)
 
-pub numbers_go_up : (c : Config) (outcomes : List Outcome) → EachFollows c outcomes → numbers_of outcomes ≡ range_with_len 1 (notices_sent outcomes)
-numbers_go_up c [] h = refl
-numbers_go_up c (x ∷ rest) h = numbers_more c x rest (told_of c x rest h.0) (numbers_go_up c rest h.1)
+pub numbers_go_up : (c : Config) (object : Object) (outcomes : List Outcome) → EachFollows c object outcomes → numbers_of outcomes ≡ range_with_len 1 (notices_sent outcomes)
+numbers_go_up c object [] h = refl
+numbers_go_up c object (x ∷ rest) h = numbers_more c object x rest (told_of c object x rest h.0) (numbers_go_up c object rest h.1)
 
 -- the gaps are kept
 
@@ -262,15 +263,15 @@ gaps_push now rest kept first zero earlier later is_later is_earlier same =
     (h.0, omega (arith, h.1))
 gaps_push now rest kept first (suc i) earlier later is_later is_earlier same = kept i earlier later is_later is_earlier same
 
-gaps_more : (c : Config) → WaitsAreOwn c → (x : Outcome) (rest : List Outcome) → Told c x rest → KeepsGaps (filter_map notice_of rest) → KeepsGaps (filter_map notice_of (x ∷ rest))
-gaps_more c own x rest (inl none) kept = subst KeepsGaps (sym (notices_none x rest none.notice)) kept
-gaps_more c own x rest (inr told) kept =
+gaps_more : (c : Config) (object : Object) → WaitsAreOwn c object → (x : Outcome) (rest : List Outcome) → Told c object x rest → KeepsGaps (filter_map notice_of rest) → KeepsGaps (filter_map notice_of (x ∷ rest))
+gaps_more c object own x rest (inl none) kept = subst KeepsGaps (sym (notices_none x rest none.notice)) kept
+gaps_more c object own x rest (inr told) kept =
     subst KeepsGaps (sym (notices_some x rest told.0 told.2.notice))
     (gaps_push told.0 (filter_map notice_of rest) kept (λ last is same. told.2.spaced own last (last_is_first rest ∙ is) same))
 
-pub gaps_are_kept : (c : Config) → WaitsAreOwn c → (outcomes : List Outcome) → EachFollows c outcomes → KeepsGaps (filter_map notice_of outcomes)
-gaps_are_kept c own [] h = λ i earlier later is_later is_earlier same. let none : None ≡ Some later = is_later in cc
-gaps_are_kept c own (x ∷ rest) h = gaps_more c own x rest (told_of c x rest h.0) (gaps_are_kept c own rest h.1)
+pub gaps_are_kept : (c : Config) (object : Object) → WaitsAreOwn c object → (outcomes : List Outcome) → EachFollows c object outcomes → KeepsGaps (filter_map notice_of outcomes)
+gaps_are_kept c object own [] h = λ i earlier later is_later is_earlier same. let none : None ≡ Some later = is_later in cc
+gaps_are_kept c object own (x ∷ rest) h = gaps_more c object own x rest (told_of c object x rest h.0) (gaps_are_kept c object own rest h.1)
 
 -- a recovery goes out after a problem notice
 

@@ -11,7 +11,7 @@ use Rattle.due_model.specs.declared.notice.Kind.TheVariants as kind
 use Rattle.due_model.specs.declared.notice.Outcome.{Outcome}
 use Rattle.due_model.specs.declared.notice.Outcome.TheVariants.{Nothing, Sent, Suppressed}
 use Rattle.due_model.specs.declared.zone.Zone.{Zone}
-use Rattle.due_model.specs.Histories.{before, of_problem, ready, status_after, view, number_after, gap_of, judged, outcome_of, outcome, reach_of, ended_at, with_repeat, repeats, timed}
+use Rattle.due_model.specs.Histories.{before, of_problem, ready, ready_or, released, status_after, view, number_after, gap_of, judged, outcome_of, outcome, reach_of, ended_at, with_repeat, repeats, timed}
 use Rattle.due_model.specs.Changes.{delayed}
 use Rattle.due_model.specs.Periods.{in_period}
 use Rattle.due_model.specs.Readings.{moment, hard, is_problem_state}
@@ -34,13 +34,13 @@ pub record Passes (v : View) (a : Attempt) : Type 0 where
   pub down : (not (is_of_downtime a.kind) && v.down) ≡ false
   pub flapping : (is_of_problem a.kind && v.flapping) ≡ false
   pub sent : (is_recovery a.kind && v.sent == 0) ≡ false
-  pub interval : (is_problem a.kind && is_too_soon v.last a.state a.moment) ≡ false
+  pub interval : (is_problem a.kind && not v.renews && is_too_soon v.last a.state a.moment) ≡ false
   pub host : (is_of_problem a.kind && v.host_problem) ≡ false
 
 pub passes_from_none : (c : Config) (zone : Zone) (v : View) (a : Attempt) → failing c zone v a ≡ None → Passes v a
 passes_from_none c zone v a h =
     let t12 : List (Bool × Filter) = (is_of_problem a.kind && v.host_problem, why.HostDown) ∷ [] in
-    let t11 : List (Bool × Filter) = (is_problem a.kind && is_too_soon v.last a.state a.moment, why.Interval) ∷ t12 in
+    let t11 : List (Bool × Filter) = (is_problem a.kind && not v.renews && is_too_soon v.last a.state a.moment, why.Interval) ∷ t12 in
     let t10 : List (Bool × Filter) = (is_problem a.kind && v.sent == 0 && nat_lt a.moment (v.began + 60 * v.delay), why.FirstDelay) ∷ t11 in
     let t9 : List (Bool × Filter) = (is_problem a.kind && v.acknowledged, why.Acknowledged) ∷ t10 in
     let t8 : List (Bool × Filter) = (is_of_problem a.kind && v.depends, why.Dependency) ∷ t9 in
@@ -60,7 +60,7 @@ passes_from_none c zone v a h =
     let p8 = none_by_test (is_of_problem a.kind && v.depends) why.Dependency t9 p7.1 in
     let p9 = none_by_test (is_problem a.kind && v.acknowledged) why.Acknowledged t10 p8.1 in
     let p10 = none_by_test (is_problem a.kind && v.sent == 0 && nat_lt a.moment (v.began + 60 * v.delay)) why.FirstDelay t11 p9.1 in
-    let p11 = none_by_test (is_problem a.kind && is_too_soon v.last a.state a.moment) why.Interval t12 p10.1 in
+    let p11 = none_by_test (is_problem a.kind && not v.renews && is_too_soon v.last a.state a.moment) why.Interval t12 p10.1 in
     let p12 = none_by_test (is_of_problem a.kind && v.host_problem) why.HostDown [] p11.1 in
     record { program = not-false v.program p1.0; down = p3.0; flapping = p4.0; sent = p6.0; interval = p11.0; host = p12.0 }
 
@@ -124,5 +124,5 @@ pub outcome_cases : (c : Config) (zone : Zone) (o : ℕ) (object : Object) (e : 
 outcome_cases c zone o object e past history P none sent stopped =
     outcome_of_cases c zone o object e past (before o e past history) (ended_at c zone o object e past history)
     (with_repeat (repeats c o e.kind past && is_problem_state (hard o past))
-    (attempted o e.kind (status_after o past) (timed c (ready c zone object (delayed c o past) (of_problem o past history))) (moment (e ∷ past))))
+    (attempted o e.kind (status_after o past) (timed c (ready_or (released o past history) (ready c zone object (delayed c o past) (of_problem o past history)))) (moment (e ∷ past))))
     (λ _. P) none sent (λ k f _. stopped k f)

@@ -12,7 +12,7 @@ use Rattle.due_model.specs.declared.notice.Suppression.{Suppression}
 use Rattle.due_model.specs.declared.zone.Zone.{Zone}
 use Rattle.due_model.specs.Due.{due_at, suppressed_at, uses_lane}
 use Rattle.due_model.specs.Receivers.{receivers, rights_for}
-use Rattle.due_model.specs.Histories.{before, hist, notices_sent, number_after, ready, repeats, status_after, timed, with_repeat}
+use Rattle.due_model.specs.Histories.{before, hist, notices_sent, number_after, ready, ready_or, released, repeats, status_after, timed, with_repeat}
 use Rattle.due_model.specs.Changes.{delayed}
 use Rattle.due_laws.specs.Laws.{last_problem}
 use Rattle.due_model.specs.Readings.{moment, hard, is_problem_state}
@@ -80,7 +80,8 @@ abbrev pub attempt_of_event : Config → Zone → ℕ → Object → Event → L
 attempt_of_event c zone o object e past =
     with_repeat (repeats c o e.kind past && is_problem_state (hard o past))
     (attempted o e.kind (status_after o past)
-    (timed c (ready c zone object (delayed c o past) (last_problem c zone o object past)))
+    (timed c (ready_or (released o past (hist c zone o object past))
+    (ready c zone object (delayed c o past) (last_problem c zone o object past))))
     (moment (e ∷ past)))
 
 -- the contacts that a notice of this kind at an event goes to

@@ -102,16 +102,19 @@ NumbersGoUpByOne = (c : Config) (zone : Zone) (o : ℕ) (object : Object) (past 
     ≡ range_with_len 1 (notices_sent (last_problem c zone o object past))
 
 -- nothing ends a wait but its gap
-pub record WaitsAreOwn (c : Config) : Type 0 where
+pub record WaitsAreOwn (c : Config) (object : Object) : Type 0 where
   pub no_reset : c.choices.reset_wait ≡ false
   pub no_period : c.choices.period_wait ≡ false
   pub no_downtime : c.choices.downtime_wait ≡ false
+  pub not_volatile : object.volatile ≡ false
 
 -- Of two problem notices of one problem in a row that report the same state, the second comes no sooner than the gap of the
--- first after it, and never where that gap is 0 (chapter "Notifications"), unless the daemon's rules end waits.
+-- first after it, and never where that gap is 0 (chapter "Notifications"), unless the daemon's rules end waits or
+-- the service is volatile.
 abbrev pub NoticesKeepTheirGaps : Type 0
-NoticesKeepTheirGaps = (c : Config) → WaitsAreOwn c → (zone : Zone) (o : ℕ) (object : Object)
-    (past : List Event) (i : ℕ) (earlier later : Last)
+NoticesKeepTheirGaps = (c : Config) (zone : Zone) (o : ℕ) (object : Object)
+    → WaitsAreOwn c object
+    → (past : List Event) (i : ℕ) (earlier later : Last)
     → slice_get (filter_map notice_of (last_problem c zone o object past)) i ≡ Some later
     → slice_get (filter_map notice_of (last_problem c zone o object past)) (i + 1) ≡ Some earlier
     → earlier.state ≡ later.state

@@ -51,6 +51,7 @@ all_fail = record {
   began = 1000;
   delay = 1;
   last = Some (record { state = state.Down; moment = 1000; gap = 60 });
+  renews = false;
   told = no_letter;
   host_problem = true;
 }

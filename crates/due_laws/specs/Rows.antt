@@ -51,6 +51,7 @@ web = record {
   period = None;
   interval = 1;
   delay = 0;
+  volatile = false;
   contacts = record { 0 = 0 } ∷ [];
 }
 

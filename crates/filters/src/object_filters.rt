@@ -110,11 +110,14 @@ fn is_within_delay(view: View, attempt: &Attempt<'_>) -> bool
         && attempt.moment < view.began + 60 * u64::from(view.delay)
 }
 
-/// The last problem notice reported the same state, and its interval is 0 or hasn't passed.
+/// The last problem notice reported the same state, and its interval is 0 or hasn't passed; never at a hard state of a
+/// volatile service.
 fn is_within_interval(view: View, attempt: &Attempt<'_>) -> bool
     requires last { IfSome view.last IsLastInRange }
-    ensures { result ≡ (is_problem attempt.now.kind
+    ensures { result ≡ (is_problem attempt.now.kind && not view.renews
         && is_too_soon view.last attempt.now.state attempt.now.moment) }
 {
-    attempt.kind.is_problem() && is_too_soon(view.last, attempt.state, attempt.moment)
+    attempt.kind.is_problem()
+        && !view.renews
+        && is_too_soon(view.last, attempt.state, attempt.moment)
 }

@@ -1,5 +1,5 @@
 -- What the slow program's functions need of the definitions.
-use Rattle.std.proofs.Common.{take, ◌≡◌, ℕ, ◌+◌, ◌<◌, ◌≤◌, ◌||◌, Bool, map, refl, List, [], ◌∷◌, ◌++◌, length, reverse, All, get_or, is_some, sym, ap, ◌∙◌, arith}
+use Rattle.std.proofs.Common.{take, ◌≡◌, ℕ, ◌+◌, ◌<◌, ◌≤◌, ◌||◌, Bool, Option, map, refl, List, [], ◌∷◌, ◌++◌, length, reverse, All, get_or, is_some, sym, ap, ◌∙◌, arith}
 use Rattle.std.proofs.lemmas.List.Elements.{All-cons}
 use Rattle.std.proofs.lemmas.List.{reverse-append}
 use Rattle.std.specs.List.{list_any}
@@ -12,7 +12,7 @@ use Rattle.due_model.specs.declared.notice.Outcome.{Outcome}
 use Rattle.due_model.specs.declared.zone.Zone.{Zone}
 use Rattle.due_model.specs.Proper.{IsProper}
 use Rattle.due_model.specs.Limits.{last_moment}
-use Rattle.due_model.specs.Histories.{ended, hist, longer, outcome}
+use Rattle.due_model.specs.Histories.{ended, hist, longer, outcome, released}
 use Rattle.due_model.specs.Due.{due_for, notices, suppressed_for, suppressions}
 use Rattle.due_model.specs.Acknowledgements.{ack_after, acked, acknowledgement}
 use Rattle.due_model.specs.Readings.{hard, moment}
@@ -63,6 +63,15 @@ over_more c zone o object events i d history now after h is =
     is
     ∙ ap (λ (past : List Event). ended c zone o object past (now ∷ reverse history)) (sym (past_more events i d h))
     ∙ ap (ended c zone o object (reverse (take (i + 1) events))) (sym (reverse-append history (now ∷ [])))
+
+-- when an acknowledgement was taken back, after the event at place i
+pub released_more : (o : ℕ) (events : List Event) (i : ℕ) (d : Event) (history : List Outcome) (now : Outcome) (after : Option ℕ) → i < length events
+    → after ≡ released o (get_or events i d ∷ reverse (take i events)) (now ∷ reverse history)
+    → after ≡ released o (reverse (take (i + 1) events)) (reverse (history ++ now ∷ []))
+released_more o events i d history now after h is =
+    is
+    ∙ ap (λ (past : List Event). released o past (now ∷ reverse history)) (sym (past_more events i d h))
+    ∙ ap (released o (reverse (take (i + 1) events))) (sym (reverse-append history (now ∷ [])))
 
 -- whether the filters of one of these contacts pass
 pub any_numbers : (f : ℕ → Bool) (contacts : List ContactId) → list_any (λ (k : ContactId). f k.0) contacts ≡ list_any f (map number_of_contact contacts)

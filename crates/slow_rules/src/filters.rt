@@ -1,7 +1,7 @@
 //! The filters of an object and of a contact, tried in their order (chapter "Notifications", "What Filters
 //! Must Be Passed In Order For Notifications To Be Sent?").
 
-ghost use Rattle.std.specs.Prelude.{◌≡◌, ◌≤◌, ◌+◌, ◌*◌, ◌==◌, ◌&&◌, nat_lt};
+ghost use Rattle.std.specs.Prelude.{◌≡◌, ◌≤◌, ◌+◌, ◌*◌, ◌==◌, ◌&&◌, nat_lt, not};
 ghost use Rattle.std.specs.Prelude.{IfOk, IfSome};
 ghost use Rattle.due_model.specs.Limits.{last_moment};
 ghost use Rattle.due_model.specs.Rules.{contact_failing, failing, is_problem, is_too_soon, is_untold};
@@ -28,10 +28,12 @@ fn is_within_delay(view: View, attempt: Attempt) -> bool
 /// Whether the last problem notice reported the same state, and its gap is 0 or hasn't passed.
 fn is_within_gap(view: View, attempt: Attempt) -> bool
     requires { IfSome view.last IsLastInRange }
-    ensures { result ≡ (is_problem attempt.kind
+    ensures { result ≡ (is_problem attempt.kind && not view.renews
         && is_too_soon view.last attempt.state attempt.moment) }
 {
-    attempt.kind.is_problem() && is_too_soon(view.last, attempt.state, attempt.moment)
+    attempt.kind.is_problem()
+        && !view.renews
+        && is_too_soon(view.last, attempt.state, attempt.moment)
 }
 
 /// The first of an object's filters that fails, in their order.

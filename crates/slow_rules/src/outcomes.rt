@@ -6,7 +6,7 @@ ghost use Rattle.std.specs.Prelude.{length, reverse};
 ghost use Rattle.due_model.specs.Accepted.{IsAccepted};
 ghost use Rattle.due_model.specs.Histories.{status_after, gap_of, judged};
 ghost use Rattle.due_model.specs.Histories.{ended, outcome, reach_of};
-ghost use Rattle.due_model.specs.Histories.{ready, repeats, timed, told_for};
+ghost use Rattle.due_model.specs.Histories.{ready, ready_or, released, repeats, timed, told_for};
 ghost use Rattle.due_model.specs.Histories.{with_repeat};
 ghost use Rattle.due_model.specs.Rules.{attempted};
 ghost use Rattle.due_model.specs.Limits.{last_moment};
@@ -17,9 +17,11 @@ ghost use Rattle.slow_rules.specs.Histories.{IsInRange, IsLastInRange, longest_g
 
 use crate::escalations::{Numbered, gap};
 use crate::filters::failing;
-use crate::attempts::{repeats, timed, with_repeat};
+use crate::attempts::{ready_or, repeats, timed, with_repeat};
 use crate::histories::{before, last_notice, of_problem, ready};
-use crate::readings::{acknowledgement, delayed, depth, flapping, hard, hard_at, moment_at};
+use crate::readings::{
+    acknowledgement, delayed, depth, flapping, hard, hard_at, moment_at, switched,
+};
 use crate::receivers::is_heard;
 use crate::subject::Subject;
 use crate::views::view;
@@ -41,6 +43,7 @@ fn status(object: ObjectId, past: &[Event]) -> ObjectStatus
         depth: depth(object, past),
         flapping: flapping(object, past),
         acknowledged: acknowledgement(object, past),
+        switched: switched(object, past),
     }
 }
 
@@ -158,6 +161,7 @@ fn attempted_at(
     event: &Event,
     past: &[Event],
     problem: &[Outcome],
+    released: Option<u64>,
 ) -> Result<Option<Kind>, AllocError>
     requires past { All (IsProper subject.now.config.now) past.now }
     requires in_range { All IsInRange problem.now }
@@ -166,15 +170,16 @@ fn attempted_at(
         && is_problem_state (hard subject.now.id.0 (reverse past.now)))
         (attempted subject.now.id.0 event.now.kind
         (status_after subject.now.id.0 (reverse past.now))
-        (timed subject.now.config.now (ready subject.now.config.now subject.now.zone.now
-        subject.now.object.now (delayed subject.now.config.now subject.now.id.0 (reverse past.now))
-        (reverse problem.now)))
+        (timed subject.now.config.now (ready_or released (ready subject.now.config.now
+        subject.now.zone.now subject.now.object.now
+        (delayed subject.now.config.now subject.now.id.0 (reverse past.now))
+        (reverse problem.now))))
         (moment (event.now ∷ reverse past.now)))) }
 {
     let began = delayed(subject.config, subject.id, past);
     let ready = ready(alloc, subject, began, problem)?;
     let old = status(subject.id, past);
-    let due = timed(subject.config.choices, ready);
+    let due = timed(subject.config.choices, ready_or(released, ready));
     let kind = attempted(subject.id, event.kind, old, due, moment_at(event, past));
     let again = both(repeats(subject, event, past), old.state.is_problem());
     Ok(with_repeat(again, kind))
@@ -188,7 +193,8 @@ fn both(one: bool, other: bool) -> bool
 }
 
 /// What becomes of the object at an event, after the events before it and their outcomes. `history` has one
-/// outcome for each of those events, and the wait after the last notice is `over` or not after them.
+/// outcome for each of those events, the wait after the last notice is `over` or not after them, and `released` is when an
+/// acknowledgement was taken back since the last attempt.
 pub(crate) fn outcome(
     alloc: Global,
     subject: &Subject<'_>,
@@ -196,6 +202,7 @@ pub(crate) fn outcome(
     past: &[Event],
     history: &[Outcome],
     over: bool,
+    released: Option<u64>,
 ) -> Result<Outcome, AllocError>
     requires accepted { IsAccepted subject.now.config.now }
     requires now { IsProper subject.now.config.now event.now }
@@ -204,13 +211,15 @@ pub(crate) fn outcome(
     requires in_range { All IsInRange history.now }
     requires over { over ≡ ended subject.now.config.now subject.now.zone.now subject.now.id.0
         subject.now.object.now (reverse past.now) (reverse history.now) }
+    requires released { released
+        ≡ released subject.now.id.0 (reverse past.now) (reverse history.now) }
     ensures value { IfOk result (λ now. now ≡ outcome subject.now.config.now subject.now.zone.now
         subject.now.id.0 subject.now.object.now event.now (reverse past.now)
         (reverse history.now)) }
     ensures in_range { IfOk result IsInRange }
 {
     let problem = of_problem(subject.id, past, history);
-    match attempted_at(alloc, subject, event, past, problem)? {
+    match attempted_at(alloc, subject, event, past, problem, released)? {
         None => Ok(Outcome::Nothing),
         Some(kind) => {
             let earlier = before(subject.id, event, past, problem);

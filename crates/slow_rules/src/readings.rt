@@ -2,10 +2,10 @@
 
 ghost use Rattle.std.specs.Prelude.{◌≡◌, ◌≤◌, ◌<◌, ◌+◌, ◌^◌, ◌&&◌, ◌∷◌};
 ghost use Rattle.std.specs.Prelude.{not, length, reverse, if◌then◌else◌};
-ghost use Rattle.due_model.specs.Readings.{moment, program_on, hard, hard_after};
+ghost use Rattle.due_model.specs.Readings.{moment, program_on, hard, hard_after, switched};
 ghost use Rattle.due_model.specs.Readings.{is_problem_of, is_problem_state};
 ghost use Rattle.due_model.specs.Readings.{depth, depth_after, down, flapping, flapping_after};
-ghost use Rattle.due_model.specs.Acknowledgements.{acked, acknowledgement};
+ghost use Rattle.due_model.specs.Acknowledgements.{acked, acknowledgement, takes_back};
 ghost use Rattle.due_model.specs.Changes.{delayed};
 ghost use Rattle.due_model.specs.Rules.{same_state};
 
@@ -142,6 +142,31 @@ pub(crate) fn is_acknowledged_at(object: ObjectId, event: &Event, past: &[Event]
         .kind
         .ack_after(object, hard(object, past), before)
         .is_some()
+}
+
+/// What the last event that switches the object's notifications says; none, where there is none.
+pub(crate) fn switched(object: ObjectId, events: &[Event]) -> Option<bool>
+    ensures { result ≡ switched object.0 (reverse events.now) }
+{
+    let mut own = None;
+    for event in events {
+        own = event.kind.switched_after(object, own);
+    }
+    own
+}
+
+/// The same, an event and those before it counted.
+pub(crate) fn switched_at(object: ObjectId, event: &Event, past: &[Event]) -> Option<bool>
+    ensures { result ≡ switched object.0 (event.now ∷ reverse past.now) }
+{
+    event.kind.switched_after(object, switched(object, past))
+}
+
+/// Whether an event takes back the acknowledgement of the object's problem.
+pub(crate) fn takes_back(object: ObjectId, event: &Event, past: &[Event]) -> bool
+    ensures { result ≡ takes_back object.0 event.now (reverse past.now) }
+{
+    event.kind.is_removal_of(object) && acknowledgement(object, past).is_some()
 }
 
 /// The last hard state of the object after an event and those before it.

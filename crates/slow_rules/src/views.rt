@@ -16,6 +16,7 @@ use crate::dependencies::dependency_fails;
 use crate::histories::{last_notice, notices_sent, told_letters};
 use crate::readings::{
     delayed_at, hard_at, is_acknowledged_at, is_down_at, is_flapping_at, moment_at, program_on,
+    switched_at,
 };
 use crate::subject::Subject;
 use due_model::config::{Config, ObjectId};
@@ -179,7 +180,7 @@ pub(crate) fn view(
     let depends = depends(alloc, subject, event, past)?;
     Ok(View {
         program: event.kind.switch_after(program_on(past)),
-        enabled: subject.object.enabled,
+        enabled: subject.object.is_enabled(switched_at(subject.id, event, past)),
         down: is_down(subject, event, past),
         flapping: is_flapping_at(subject.id, event, past),
         options: subject.object.options,
@@ -190,6 +191,7 @@ pub(crate) fn view(
         began: delayed_at(subject.config, subject.id, event, past),
         delay: subject.object.delay,
         last: waiting(over, last_notice(earlier)),
+        renews: subject.object.volatile && event.kind.is_hard_of(subject.id),
         told: told_letters(earlier),
         host_problem: host_holds(subject, event, past),
     })
