@@ -13,3 +13,4 @@ pub mod Problems
 pub mod ReadingLaws
 pub mod ShortChains
 pub mod Verdicts
+pub mod Removals

@@ -1,11 +1,15 @@
 -- When a problem is acknowledged, without the recursions of the definition.
-use Rattle.std.specs.Prelude.{◌≡◌, ◌↔◌, ℕ, Bool, false, List, [], ◌∷◌, ◌++◌, reverse, All, ◌==◌, Option, None, Some, IsTrue, if◌then◌else◌}
+use Rattle.std.specs.Prelude.{◌≡◌, ◌↔◌, ℕ, Bool, true, false, List, [], ◌∷◌, ◌++◌, reverse, All, ◌==◌, Option, None, Some, IsTrue, if◌then◌else◌}
 use Rattle.due_model.specs.declared.event.Event.{Event}
 use Rattle.due_model.specs.declared.event.EventKind.{EventKind}
 use Rattle.due_model.specs.declared.event.EventKind.TheVariants.{Clock, Program, Hard, Downtime, Flapping, Ack, AckRemoved, OwnSwitch}
 use Rattle.due_model.specs.declared.state.State.{State}
-use Rattle.due_model.specs.Acknowledgements.{acked, ends_ack}
-use Rattle.due_model.specs.Readings.{hard, is_problem_state}
+use Rattle.due_model.specs.declared.config.Config.{Config}
+use Rattle.due_model.specs.declared.config.Object.{Object}
+use Rattle.due_model.specs.declared.zone.Zone.{Zone}
+use Rattle.due_model.specs.Acknowledgements.{acked, ends_ack, is_removal_of, takes_back}
+use Rattle.due_model.specs.Histories.{hist, released}
+use Rattle.due_model.specs.Readings.{hard, is_problem_state, moment}
 
 -- whether an event is an acknowledgement of object o, and then whether it is sticky
 abbrev pub ack_of : ℕ → EventKind → Option Bool
@@ -43,3 +47,14 @@ abbrev pub AckedByLastAcknowledgement : Type 0
 AckedByLastAcknowledgement = (o : ℕ) (feed : List Event) → IsTrue (acked o (reverse feed))
     ↔ ((earlier : List Event) × (a : Event) × (sticky : Bool) × (later : List Event)
     × (feed ≡ earlier ++ a ∷ later) × IsAcknowledgedBy o earlier a sticky later)
+
+-- A problem isn't acknowledged once its acknowledgement is taken back (chapter "External Commands").
+abbrev pub RemovalEndsAcknowledgements : Type 0
+RemovalEndsAcknowledgements = (o : ℕ) (e : Event) (past : List Event)
+    → is_removal_of o e.kind ≡ true → acked o (e ∷ past) ≡ false
+
+-- From then on the clock attempts it again.
+abbrev pub RemovalIsReady : Type 0
+RemovalIsReady = (c : Config) (zone : Zone) (o : ℕ) (object : Object) (e : Event) (past : List Event)
+    → takes_back o e past ≡ true
+    → released o (e ∷ past) (hist c zone o object (e ∷ past)) ≡ Some (moment (e ∷ past))

@@ -12,8 +12,8 @@ use Rattle.due_model.specs.declared.state.State.{State}
 use Rattle.due_model.specs.declared.state.State.TheVariants as state
 use Rattle.due_model.specs.declared.zone.Zone.{Zone}
 use Rattle.due_model.specs.Acknowledgements.{is_ok_of}
-use Rattle.due_model.specs.Histories.{of_problem, notices_sent, last_notice, ready, retry_after, after_notice}
-use Rattle.due_model.specs.Readings.{moment, program_on, hard, flapping, down, began, is_problem_of, is_problem_state}
+use Rattle.due_model.specs.Histories.{of_problem, notices_sent, last_notice, ready, retry_after, after_notice, is_enabled}
+use Rattle.due_model.specs.Readings.{moment, program_on, hard, flapping, down, began, is_problem_of, is_problem_state, switched}
 use Rattle.due_model.specs.Rules.{is_problem, next_notice}
 
 -- The moment after some events is at least each stamp, and one of them.
@@ -185,6 +185,17 @@ switch_of (Ack p sticky) = None
 switch_of (AckRemoved p) = None
 switch_of (OwnSwitch p on) = None
 
+-- the own switch of object o that an event sets, if it sets it
+abbrev pub own_switch_of : ℕ → EventKind → Option Bool
+own_switch_of o Clock = None
+own_switch_of o (Program on) = None
+own_switch_of o (Hard p s) = None
+own_switch_of o (Downtime p change) = None
+own_switch_of o (Flapping p starts) = None
+own_switch_of o (Ack p sticky) = None
+own_switch_of o (AckRemoved p) = None
+own_switch_of o (OwnSwitch p on) = if p.0 == o then Some on else None
+
 -- a value is that of the last event of the feed that gives one; where none does, it is the first value
 abbrev pub IsOfLastEvent : {X : Type 0} → (EventKind → Option X) → X → List Event → X → Type 0
 IsOfLastEvent gives first feed value =
@@ -206,3 +217,10 @@ FlappingIsOfLastEvent = (o : ℕ) (feed : List Event)
 abbrev pub SwitchIsOfLastEvent : Type 0
 SwitchIsOfLastEvent = (feed : List Event)
     → IsOfLastEvent switch_of true feed (program_on (reverse feed))
+
+-- An object's notifications are on as the last event that switches them says; as the object text says, where none does
+-- (chapter "External Commands").
+abbrev pub OwnSwitchIsOfLastEvent : Type 0
+OwnSwitchIsOfLastEvent = (o : ℕ) (object : Object) (feed : List Event)
+    → IsOfLastEvent (own_switch_of o) object.enabled feed
+    (is_enabled object (switched o (reverse feed)))
