@@ -248,4 +248,3 @@ AtResultsOwn = Gives (record base { choices = own }) 0 at_results_feed ((0, 1000
 
 abbrev pub AtResultsNagios : Type 0
 AtResultsNagios = Gives (record base { choices = (record own { at_results = true }) }) 0 at_results_feed ((0, 1000, kind.Problem, state.Down, 1, 0) ∷ (2, 1061, kind.Problem, state.Down, 2, 0) ∷ []) []
-

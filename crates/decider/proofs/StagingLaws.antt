@@ -125,8 +125,7 @@ repeated_touched v e past o settings again =
 other_host : (c : Config) (h p : ℕ) (service : Object) (host : ObjectId) → IsAccepted c → slice_get c.objects p ≡ Some service → service.host ≡ Some host → host.0 ≡ h
     → (h < length c.objects) × (h ≢ p)
 other_host c h p service host accepted at is same =
-    let here : IsHost c host.0 = subst (λ (found : Option ObjectId). IfSome found (λ x. IsHost c x.0)) is (All-slice_get (ObjectFits c) c.objects p service accepted.objects at).host in
-    (
+    let here : IsHost c host.0 = subst (λ (found : Option ObjectId). IfSome found (λ x. IsHost c x.0)) is (All-slice_get (ObjectFits c) c.objects p service accepted.objects at).host in (
       subst (λ (n : ℕ). n < length c.objects) same (slice_get_within c.objects host.0 here.0 here.1),
       λ e. false≢true (ap is_some (sym here.2) ∙ ap (λ (x : Object). is_some x.host) (same_Some here.0 service (sym here.1 ∙ ap (slice_get c.objects) (same ∙ e) ∙ at)) ∙ ap is_some is),
     )
@@ -208,13 +207,13 @@ module _ (laws : UntouchedFit) (v : Values) (e : Event) (past : List Event) (is 
       pub pair_touched : ((settings : Object) → is_touched v.config v.zone e past first.0 settings ≡ true) × ((settings : Object) → is_touched v.config v.zone e past second.0 settings ≡ true)
       pair_touched = elim are [
         | inl same ↦ (
-            λ settings. rw same.0 (repeated_touched v e past h.0 settings host_again),
-            λ settings. rw same.1 (named_touched v e past is p settings named),
-          )
+          λ settings. rw same.0 (repeated_touched v e past h.0 settings host_again),
+          λ settings. rw same.1 (named_touched v e past is p settings named),
+        )
         | inr same ↦ (
-            λ settings. rw same.0 (named_touched v e past is p settings named),
-            λ settings. rw same.1 (repeated_touched v e past h.0 settings host_again),
-          )
+          λ settings. rw same.0 (named_touched v e past is p settings named),
+          λ settings. rw same.1 (repeated_touched v e past h.0 settings host_again),
+        )
       ]
 
       -- which are there, and not one

@@ -92,7 +92,11 @@ fn repeated_by(
         && is_problem_state state && same_state state (status_at statuses.now service.0).state)
         ≡ names result o }
 {
-    if is_repeated(reading.rules.config.choices, statuses.at(service).state, state) {
+    if is_repeated(
+        reading.rules.config.choices,
+        statuses.at(service).state,
+        state,
+    ) {
         reading.rules.config.objects.as_slice()[usize::from(service.0)].host
     } else {
         None

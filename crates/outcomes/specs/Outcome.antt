@@ -90,12 +90,12 @@ pub record IsJudgement (j : Judgement) : Type 0 where
 -- within whatever event this is found at.
 pub record Begins (choices : Choices) (o : ℕ) (found : Found) (old new : BookValues) : Type 0
   where
-  pub state : new.state ≡ hard_after o found.event old.state
-  pub sent : new.sent ≤ old.sent
-  pub fits : (c : Config) (zone : Zone) (settings : Object) (e : Event) (past : List Event)
-      → choices ≡ c.choices → found.event ≡ e.kind → found.moment ≡ moment (e ∷ past)
-      → found.before.acknowledged ≡ acknowledgement o past
-      → BookFits c zone o settings past old → BookFitsWithin c zone o settings e past new
+    pub state : new.state ≡ hard_after o found.event old.state
+    pub sent : new.sent ≤ old.sent
+    pub fits : (c : Config) (zone : Zone) (settings : Object) (e : Event) (past : List Event)
+        → choices ≡ c.choices → found.event ≡ e.kind → found.moment ≡ moment (e ∷ past)
+        → found.before.acknowledged ≡ acknowledgement o past
+        → BookFits c zone o settings past old → BookFitsWithin c zone o settings e past new
 
 -- Whatever event the old book fits within, of which this becomes, the new one fits after it.
 abbrev pub Settles : Rules → (o : ℕ) → Kind → Outcome → (old new : BookValues) → Type 0

@@ -85,13 +85,7 @@ fn stop_lapses(
 }
 
 /// Whether this is a problem, outside the object's period, and the program switch is on.
-fn is_outside(
-    rules: &Rules<'_>,
-    settings: &Object,
-    kind: Kind,
-    moment: u64,
-    filter: Filter,
-) -> bool
+fn is_outside(rules: &Rules<'_>, settings: &Object, kind: Kind, moment: u64, filter: Filter) -> bool
     requires rules { AreRules rules.now }
     requires moment { moment ≤ last_moment }
     ensures { result ≡ (is_problem kind && (not (is_by_switch filter)

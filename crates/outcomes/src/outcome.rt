@@ -77,12 +77,7 @@ pub fn decide(rules: &Rules<'_>, object: ObjectId, found: &Found, book: Book) ->
 }
 
 /// What becomes of an object, once it is known whether a notice that goes out counts. It takes no memory.
-pub fn conclude(
-    rules: &Rules<'_>,
-    object: ObjectId,
-    judgement: Judgement,
-    heard: bool,
-) -> Decision
+pub fn conclude(rules: &Rules<'_>, object: ObjectId, judgement: Judgement, heard: bool) -> Decision
     requires rules { AreRules rules.now }
     requires object { object.0 < length rules.now.config.now.objects }
     requires judgement { IsJudgement judgement }

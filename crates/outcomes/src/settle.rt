@@ -39,7 +39,10 @@ pub(crate) fn settle(
     let mut settled = book;
     match outcome {
         Outcome::Sent {
-            moment, gap, reach, ..
+            moment,
+            gap,
+            reach,
+            ..
         } => {
             if reach.heard {
                 settled.went_out(moment, gap);

@@ -111,7 +111,11 @@ impl Book {
             began: if delays { t } else { self.began },
             sent: if begins { 0 } else { self.sent },
             last: if begins { None } else { self.last },
-            told: if begins { OptionLetters::NONE } else { self.told },
+            told: if begins {
+                OptionLetters::NONE
+            } else {
+                self.told
+            },
             ended: self.ended || (choices.reset_wait && changes),
             due: None,
         }

@@ -66,12 +66,7 @@ pub(crate) fn released_after(
 fn is_service(subject: &Subject<'_>, other: ObjectId) -> bool
     ensures { result ≡ is_service_of subject.now.config.now other.0 subject.now.id.0 }
 {
-    match subject
-        .config
-        .objects
-        .as_slice()
-        .get(usize::from(other.0))
-    {
+    match subject.config.objects.as_slice().get(usize::from(other.0)) {
         Some(object) => is_host_of(subject.id, object.host),
         None => false,
     }

@@ -15,9 +15,9 @@ ghost use Rattle.due_model.specs.Changes.{delayed};
 ghost use Rattle.due_model.specs.Readings.{hard, is_problem_state, moment};
 ghost use Rattle.slow_rules.specs.Histories.{IsInRange, IsLastInRange, longest_gap};
 
+use crate::attempts::{ready_or, repeats, timed, with_repeat};
 use crate::escalations::{Numbered, gap};
 use crate::filters::failing;
-use crate::attempts::{ready_or, repeats, timed, with_repeat};
 use crate::histories::{before, last_notice, of_problem, ready};
 use crate::readings::{
     acknowledgement, delayed, depth, flapping, hard, hard_at, moment_at, switched,

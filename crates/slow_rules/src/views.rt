@@ -180,7 +180,9 @@ pub(crate) fn view(
     let depends = depends(alloc, subject, event, past)?;
     Ok(View {
         program: event.kind.switch_after(program_on(past)),
-        enabled: subject.object.is_enabled(switched_at(subject.id, event, past)),
+        enabled: subject
+            .object
+            .is_enabled(switched_at(subject.id, event, past)),
         down: is_down(subject, event, past),
         flapping: is_flapping_at(subject.id, event, past),
         options: subject.object.options,

@@ -20,12 +20,7 @@ use std::alloc::{AllocError, Global};
 
 /// Whether the wait is ended within an event, which was `over` or not before it: by the daemon's rule a change of the hard
 /// state ends it.
-pub(crate) fn ended_within(
-    subject: &Subject<'_>,
-    event: &Event,
-    past: &[Event],
-    over: bool,
-) -> bool
+pub(crate) fn ended_within(subject: &Subject<'_>, event: &Event, past: &[Event], over: bool) -> bool
     ensures { result ≡ ended_within subject.now.config.now subject.now.id.0 event.now
         (reverse past.now) over }
 {
@@ -110,13 +105,7 @@ fn lapses(
 
 /// Whether an attempt of this kind that was stopped ends the wait, where it was a problem outside the object's period
 /// or not.
-fn stop_lapses(
-    subject: &Subject<'_>,
-    down: bool,
-    held: bool,
-    kind: Kind,
-    outside: bool,
-) -> bool
+fn stop_lapses(subject: &Subject<'_>, down: bool, held: bool, kind: Kind, outside: bool) -> bool
     ensures { result ≡ (not (is_problem kind && held)
         && ((subject.now.config.now.choices.period_wait && outside)
         || (subject.now.config.now.choices.downtime_wait

@@ -13,8 +13,7 @@ returns-in-Some c = λ settings e past at is within.
 
 pub returns-in-None : goal.returns-in-None
 returns-in-None c = λ settings e past at is within.
-    let of = subst (λ x. IsOf x c.args.judgement.outcome) c.in-None.is c.requires.judgement.of in
-    (
+    let of = subst (λ x. IsOf x c.args.judgement.outcome) c.in-None.is c.requires.judgement.of in (
       c.heard_as-outcome.ensures ∙ sym is,
       c.fit_on.ensures.outcomes c.args.rules.now.config.now c.args.rules.now.zone.now c.args.object.0 settings e past c.args.judgement.book within
           (ap is_of_problem_attempt (is ∙ ap (with_heard c.args.heard) of)),
