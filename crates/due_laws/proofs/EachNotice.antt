@@ -1,5 +1,5 @@
 -- What holds of each notice, from what holds of the notices that an event adds.
-use Rattle.std.proofs.Common.{◌≡◌, ℕ, suc, ◌+◌, ◌-◌, ◌<◌, Bool, true, false, not, ◌||◌, List, [], ◌∷◌, length, get_or, drop, All, Option, None, Some, refl, sym, ap, ◌∙◌, subst, arith}
+use Rattle.std.proofs.Common.{◌≡◌, ℕ, suc, ◌+◌, ◌-◌, ◌<◌, Bool, true, false, not, ◌||◌, ◌&&◌, List, [], ◌∷◌, length, get_or, drop, All, Option, None, Some, refl, sym, ap, ◌∙◌, subst, arith}
 use Rattle.std.proofs.lemmas.Bool.{or_parts}
 use Rattle.std.proofs.lemmas.List.Elements.{All-nil, All-append}
 use Rattle.due_model.specs.declared.config.Config.{Config}
@@ -12,9 +12,9 @@ use Rattle.due_model.specs.declared.notice.Outcome.{Outcome}
 use Rattle.due_model.specs.declared.notice.Outcome.TheVariants.{Nothing, Sent, Suppressed}
 use Rattle.due_model.specs.declared.zone.Zone.{Zone}
 use Rattle.due_model.specs.Due.{notices, due_for, due_at}
-use Rattle.due_model.specs.Histories.{before, outcome, hist, view, down_with_host, ended_at}
+use Rattle.due_model.specs.Histories.{before, outcome, hist, host_holds, view, down_with_host, ended_at}
 use Rattle.due_laws.specs.Laws.{up_to, TellsOfEvent, NothingHoldsBack}
-use Rattle.due_model.specs.Readings.{moment, hard, flapping, down}
+use Rattle.due_model.specs.Readings.{moment, hard, flapping, down, is_problem_state}
 use Rattle.due_model.specs.declared.rules.Attempt.{Attempt}
 use Rattle.due_model.specs.Rules.{is_of_problem, is_of_downtime}
 use Rattle.due_model.specs.Receivers.{receivers}
@@ -120,4 +120,23 @@ due_for_held_back c zone o object l past =
     due_for_each c zone o object l (λ so_far n. is_of_problem n.kind ≡ true → NothingHoldsBack o object so_far)
     (λ e earlier. due_at_each c zone o object l e earlier (λ n. is_of_problem n.kind ≡ true → NothingHoldsBack o object (e ∷ earlier))
     (λ k number contact passes of. nothing_holds_back c zone o object e earlier (before o e earlier (hist c zone o object earlier)) (ended_at c zone o object e earlier (hist c zone o object earlier)) k passes of))
+    past
+
+-- a host that isn't UP holds its services back, where that is chosen
+
+no_problem : (choice : Bool) (past : List Event) (host : Option ObjectId) → choice ≡ true
+    → (choice && elim host as (λ _. Bool) [ None ↦ false | Some h ↦ is_problem_state (hard h.0 past) ]) ≡ false
+    → (h : ObjectId) → host ≡ Some h → is_problem_state (hard h.0 past) ≡ false
+no_problem choice past None chosen none h is = cc
+no_problem choice past (Some g) chosen none h is =
+    let same : g ≡ h = cc in
+    ap (λ (x : ObjectId). is_problem_state (hard x.0 past)) (sym same) ∙ and_second choice (is_problem_state (hard g.0 past)) none chosen
+
+pub due_for_hosts : (c : Config) (zone : Zone) (o : ℕ) (object : Object) (l : ℕ) (past : List Event) → c.choices.host_down ≡ true
+    → All (λ n. is_of_problem n.kind ≡ true → (h : ObjectId) → object.host ≡ Some h → is_problem_state (hard h.0 (up_to past n.event)) ≡ false) (due_for c zone o object l past)
+due_for_hosts c zone o object l past chosen =
+    due_for_each c zone o object l (λ so_far n. is_of_problem n.kind ≡ true → (h : ObjectId) → object.host ≡ Some h → is_problem_state (hard h.0 so_far) ≡ false)
+    (λ e earlier. due_at_each c zone o object l e earlier (λ n. is_of_problem n.kind ≡ true → (h : ObjectId) → object.host ≡ Some h → is_problem_state (hard h.0 (e ∷ earlier)) ≡ false)
+    (λ k number contact passes of.
+    no_problem c.choices.host_down (e ∷ earlier) object.host chosen (and_second (is_of_problem k) (host_holds c object (e ∷ earlier)) passes.host of)))
     past

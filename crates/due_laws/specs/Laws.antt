@@ -13,7 +13,7 @@ use Rattle.due_model.specs.declared.notice.Outcome.TheVariants.{Nothing, Sent, S
 use Rattle.due_model.specs.declared.zone.Zone.{Zone}
 use Rattle.due_model.specs.Due.{due, sup}
 use Rattle.due_model.specs.Histories.{hist, of_problem, notice_of, notices_sent}
-use Rattle.due_model.specs.Readings.{moment, hard, program_on, flapping, down}
+use Rattle.due_model.specs.Readings.{moment, hard, program_on, flapping, down, is_problem_state}
 use Rattle.due_model.specs.declared.rules.Last.{Last}
 use Rattle.due_model.specs.Rules.{is_of_problem, is_problem, is_recovery}
 
@@ -74,6 +74,15 @@ abbrev pub ProblemsAreHeldBack : Type 0
 ProblemsAreHeldBack = (c : Config) (zone : Zone) (o l : ℕ) (object : Object) (past : List Event)
     → slice_get c.objects o ≡ Some object
     → All (λ n. is_of_problem n.kind ≡ true → NothingHoldsBack o object (up_to past n.event))
+    (due c zone o l past)
+
+-- Where the daemon's rule holds services back whose host isn't UP, their problems and recoveries are notified of only while
+-- it isn't so.
+abbrev pub ServicesWaitForTheirHosts : Type 0
+ServicesWaitForTheirHosts = (c : Config) (zone : Zone) (o l : ℕ) (object : Object)
+    (past : List Event) → c.choices.host_down ≡ true → slice_get c.objects o ≡ Some object
+    → All (λ n. is_of_problem n.kind ≡ true
+    → ForSome object.host (λ h. is_problem_state (hard h.0 (up_to past n.event)) ≡ false))
     (due c zone o l past)
 
 -- the outcomes of the object's last problem

@@ -1,10 +1,11 @@
 //! What becomes of an attempt.
 
-ghost use Rattle.std.specs.Prelude.{◌≡◌, ◌≤◌, ◌<◌, ◌+◌, ◌^◌};
+ghost use Rattle.std.specs.Prelude.{◌≡◌, ◌≤◌, ◌<◌, ◌+◌, ◌^◌, ◌&&◌};
 ghost use Rattle.std.specs.Prelude.{length, slice_get, true, IfSome, Some};
 ghost use Rattle.due_model.specs.declared.config.Object.{Object};
 ghost use Rattle.due_model.specs.Histories.{gap_of, judged, told_for};
 ghost use Rattle.due_model.specs.Limits.{last_moment};
+ghost use Rattle.due_model.specs.Readings.{is_hard_of};
 ghost use Rattle.due_model.specs.Rules.{letter_of};
 ghost use Rattle.filters.specs.Attempt.{IsLastInRange, plain};
 ghost use Rattle.outcomes.specs.Found.{attempt_by, view_by};
@@ -83,10 +84,17 @@ fn view_of(object: ObjectId, settings: &Object, found: &Found, book: Book) -> Vi
         began: book.began(),
         delay: settings.delay,
         last: if book.ended() { None } else { book.last() },
-        renews: settings.volatile && found.event.is_hard_of(object),
+        renews: renews(settings, found, object),
         told: book.told(),
         host_problem: found.host_problem,
     }
+}
+
+/// Whether the event is a hard state of a volatile service.
+fn renews(settings: &Object, found: &Found, object: ObjectId) -> bool
+    ensures { result ≡ (settings.now.volatile && is_hard_of object.0 found.now.event) }
+{
+    settings.volatile && found.event.is_hard_of(object)
 }
 
 /// How far a notice of an object with these settings reaches, if it counts.

@@ -9,7 +9,7 @@ ghost use Rattle.due_model.specs.Dependencies.{dependency_fails};
 ghost use Rattle.due_model.specs.Histories.{depends_at, down_with_host, host_holds, view, waiting};
 ghost use Rattle.due_model.specs.Limits.{last_moment, max_objects};
 ghost use Rattle.due_model.specs.Proper.{IsProper};
-ghost use Rattle.due_model.specs.Readings.{hard, moment};
+ghost use Rattle.due_model.specs.Readings.{hard, is_hard_of, moment};
 ghost use Rattle.slow_rules.specs.Histories.{IsInRange, IsLastInRange};
 
 use crate::dependencies::dependency_fails;
@@ -193,10 +193,18 @@ pub(crate) fn view(
         began: delayed_at(subject.config, subject.id, event, past),
         delay: subject.object.delay,
         last: waiting(over, last_notice(earlier)),
-        renews: subject.object.volatile && event.kind.is_hard_of(subject.id),
+        renews: renews(subject, event),
         told: told_letters(earlier),
         host_problem: host_holds(subject, event, past),
     })
+}
+
+/// Whether the event is a hard state of a volatile service.
+fn renews(subject: &Subject<'_>, event: &Event) -> bool
+    ensures { result ≡ (subject.now.object.now.volatile
+        && is_hard_of subject.now.id.0 event.now.kind) }
+{
+    subject.object.volatile && event.kind.is_hard_of(subject.id)
 }
 
 /// The last notice, where its wait isn't over.
