@@ -82,7 +82,7 @@ view_is c zone o settings e past found book is fits =
     with_ack acknowledged = record (view c zone o settings e past (problem_before c zone o settings e past) (ended_in c zone o settings e past)) { acknowledged = acknowledged }
 
     by_found : view_by o settings found book ≡ with_ack (is_some (acknowledgement o (e ∷ past)))
-    by_found = rw (is.program, is.after, is.host_down, is.depends, is.host_problem, fits) refl
+    by_found = rw (is.event, is.program, is.after, is.host_down, is.depends, is.host_problem, fits) refl
 
 pub attempt_is : (c : Config) (zone : Zone) (o : ℕ) (settings : Object) (e : Event) (past : List Event) (found : Found) (k : Kind)
     → IsFound c zone o settings e past found

@@ -1,7 +1,8 @@
 //! What becomes of an object at an event.
 
-ghost use Rattle.std.specs.Prelude.{◌≡◌, ◌≤◌, ◌<◌, ◌+◌, ◌^◌, ◌&&◌, is_some, length, true};
-ghost use Rattle.due_model.specs.Acknowledgements.{is_removal_of};
+ghost use Rattle.std.specs.Prelude.{◌≡◌, ◌≤◌, ◌<◌, ◌+◌, ◌^◌, ◌&&◌, is_some, length, true, List};
+ghost use Rattle.due_model.specs.declared.event.Event.{Event};
+ghost use Rattle.due_model.specs.Acknowledgements.{acknowledgement, is_removal_of, takes_back};
 ghost use Rattle.due_model.specs.Limits.{last_moment};
 ghost use Rattle.outcomes.specs.Outcome.{Begins, Concludes, Decides, IsJudgement, with_heard};
 ghost use Rattle.due_model.specs.Readings.{hard_after, is_problem_state};
@@ -160,7 +161,7 @@ fn begin(choices: Choices, object: ObjectId, found: &Found, book: Book) -> Book
     ensures { Begins choices object.0 found.now book result }
 {
     fit_on();
-    if takes_back(object, found) {
+    if is_taken_back(object, found) {
         let mut begun = book;
         begun.release(found.moment);
         return begun;
@@ -179,7 +180,17 @@ fn begin(choices: Choices, object: ObjectId, found: &Found, book: Book) -> Book
     }
 }
 
-/// Whether the event takes back the acknowledgement of the object's problem.
+/// Whether the event takes back the acknowledgement of the object's problem, whatever event and past this is found at.
+fn is_taken_back(object: ObjectId, found: &Found) -> bool
+    ensures removal { result ≡ true → is_removal_of object.0 found.now.event ≡ true }
+    ensures takes { (e : Event) (past : List Event) → found.now.event ≡ e.kind
+        → found.now.before.acknowledged ≡ acknowledgement object.0 past
+        → takes_back object.0 e past ≡ result }
+{
+    takes_back(object, found)
+}
+
+/// Whether it does, by what is found.
 fn takes_back(object: ObjectId, found: &Found) -> bool
     ensures { result ≡ (is_removal_of object.0 found.now.event
         && is_some found.now.before.acknowledged) }

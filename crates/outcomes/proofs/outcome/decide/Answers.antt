@@ -1,4 +1,5 @@
 use Rattle.std.proofs.Common.{◌∙◌, Bool, true, ap, arith, refl, sym}
+use Rattle.due_model.specs.declared.rules.ObjectStatus.{ObjectStatus}
 use Rattle.due_model.specs.Readings.{hard_after, is_problem_state}
 use Rattle.outcomes.specs.Found.{attempt_by, tried, view_by}
 use Rattle.outcomes.specs.Outcome.{heard_of}
@@ -14,7 +15,7 @@ returns-in-None-clause-decides c = λ settings e past at found fits.
     let seen = c.args.found.now in
     let none = sym (c.tried.ensures ∙ ap (tried o seen) c.ready_by-ready.ensures) ∙ c.in-None.is in
     let nothing = nothing_is config zone o settings e past seen c.args.book c.attempt_by_due.ensures.outcomes found fits none in
-    let within = c.begin-begun.ensures.fits config zone settings e past refl found.event found.at (ap (λ s. s.acknowledged) found.before) fits in
+    let within = c.begin-begun.ensures.fits config zone settings e past refl found.event found.at (ap (λ (s : ObjectStatus). s.acknowledged) found.before) fits in
     (sym nothing, c.lapsed-in-None.ensures.fits settings e past true at found (sym nothing) within)
 
 pub returns-in-Some-clause-decides : goal.returns-in-Some-clause-decides
@@ -25,7 +26,7 @@ returns-in-Some-clause-decides c = λ settings e past at found fits.
     let seen = c.args.found.now in
     let tries = sym (c.tried.ensures ∙ ap (tried o seen) c.ready_by-ready.ensures) ∙ c.in-Some.is in
     let begun = c.begin-begun.result in
-    let within = c.begin-begun.ensures.fits config zone settings e past refl found.event found.at (ap (λ s. s.acknowledged) found.before) fits in
+    let within = c.begin-begun.ensures.fits config zone settings e past refl found.event found.at (ap (λ (s : ObjectStatus). s.acknowledged) found.before) fits in
     let outcome = heard_is config zone o settings (view_by o settings seen begun) (attempt_by seen c.in-Some.kind) c.judge-outcome.result (outcome_at config zone o settings e past)
     (c.judge-outcome.ensures.value settings at)
     (outcome_is config zone o settings e past seen c.args.book begun c.in-Some.kind c.attempt_by_due.ensures.outcomes found fits within tries)
