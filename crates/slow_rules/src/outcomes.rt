@@ -161,7 +161,7 @@ fn attempted_at(
     event: &Event,
     past: &[Event],
     problem: &[Outcome],
-    released: Option<u64>,
+    freed: Option<u64>,
 ) -> Result<Option<Kind>, AllocError>
     requires past { All (IsProper subject.now.config.now) past.now }
     requires in_range { All IsInRange problem.now }
@@ -170,7 +170,7 @@ fn attempted_at(
         && is_problem_state (hard subject.now.id.0 (reverse past.now)))
         (attempted subject.now.id.0 event.now.kind
         (status_after subject.now.id.0 (reverse past.now))
-        (timed subject.now.config.now (ready_or released (ready subject.now.config.now
+        (timed subject.now.config.now (ready_or freed (ready subject.now.config.now
         subject.now.zone.now subject.now.object.now
         (delayed subject.now.config.now subject.now.id.0 (reverse past.now))
         (reverse problem.now))))
@@ -179,7 +179,7 @@ fn attempted_at(
     let began = delayed(subject.config, subject.id, past);
     let ready = ready(alloc, subject, began, problem)?;
     let old = status(subject.id, past);
-    let due = timed(subject.config.choices, ready_or(released, ready));
+    let due = timed(subject.config.choices, ready_or(freed, ready));
     let kind = attempted(subject.id, event.kind, old, due, moment_at(event, past));
     let again = both(repeats(subject, event, past), old.state.is_problem());
     Ok(with_repeat(again, kind))
@@ -193,7 +193,7 @@ fn both(one: bool, other: bool) -> bool
 }
 
 /// What becomes of the object at an event, after the events before it and their outcomes. `history` has one
-/// outcome for each of those events, the wait after the last notice is `over` or not after them, and `released` is when an
+/// outcome for each of those events, the wait after the last notice is `over` or not after them, and `freed` is when an
 /// acknowledgement was taken back since the last attempt.
 pub(crate) fn outcome(
     alloc: Global,
@@ -202,7 +202,7 @@ pub(crate) fn outcome(
     past: &[Event],
     history: &[Outcome],
     over: bool,
-    released: Option<u64>,
+    freed: Option<u64>,
 ) -> Result<Outcome, AllocError>
     requires accepted { IsAccepted subject.now.config.now }
     requires now { IsProper subject.now.config.now event.now }
@@ -211,7 +211,7 @@ pub(crate) fn outcome(
     requires in_range { All IsInRange history.now }
     requires over { over ≡ ended subject.now.config.now subject.now.zone.now subject.now.id.0
         subject.now.object.now (reverse past.now) (reverse history.now) }
-    requires released { released
+    requires freed { freed
         ≡ released subject.now.id.0 (reverse past.now) (reverse history.now) }
     ensures value { IfOk result (λ now. now ≡ outcome subject.now.config.now subject.now.zone.now
         subject.now.id.0 subject.now.object.now event.now (reverse past.now)
@@ -219,7 +219,7 @@ pub(crate) fn outcome(
     ensures in_range { IfOk result IsInRange }
 {
     let problem = of_problem(subject.id, past, history);
-    match attempted_at(alloc, subject, event, past, problem, released)? {
+    match attempted_at(alloc, subject, event, past, problem, freed)? {
         None => Ok(Outcome::Nothing),
         Some(kind) => {
             let earlier = before(subject.id, event, past, problem);

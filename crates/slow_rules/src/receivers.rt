@@ -147,7 +147,7 @@ fn passes(
     contact: ContactId,
 ) -> Result<bool, AllocError>
     requires moment { attempt.moment ≤ last_moment }
-    ensures { IfOk result (λ passes. passes
+    ensures { IfOk result (λ pass. pass
         ≡ passes subject.now.config.now subject.now.zone.now subject.now.object.now attempt told
         contact.0) }
 {
@@ -168,7 +168,7 @@ fn one_passes(
     contacts: &[ContactId],
 ) -> Result<bool, AllocError>
     requires moment { attempt.moment ≤ last_moment }
-    ensures { IfOk result (λ passes. passes
+    ensures { IfOk result (λ pass. pass
         ≡ list_any (λ contact. passes subject.now.config.now subject.now.zone.now
         subject.now.object.now attempt told contact.0) contacts.now) }
 {

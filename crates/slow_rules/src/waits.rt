@@ -80,7 +80,7 @@ fn lapses(
     outcome: Outcome,
 ) -> Result<bool, AllocError>
     requires in_range { IsInRange outcome }
-    ensures { IfOk result (λ lapses. lapses ≡ lapses subject.now.config.now subject.now.zone.now
+    ensures { IfOk result (λ ends. ends ≡ lapses subject.now.config.now subject.now.zone.now
         subject.now.object.now
         (down_with_host subject.now.id.0 subject.now.object.now (event.now ∷ reverse past.now))
         (host_holds subject.now.config.now subject.now.object.now (event.now ∷ reverse past.now))

@@ -72,8 +72,8 @@ returns-clause-suppressed c =
     c.loop-index.invariant.suppressed
     ∙ ap (suppressed_for s.config.now s.zone.now s.id.0 s.object.now) (past_all c.args.events.now c.loop-index.index c.loop-index-test.false)
 
-pub outcome-now-requires-clause-released : goal.outcome-now-requires-clause-released
-outcome-now-requires-clause-released c =
+pub outcome-now-requires-clause-freed : goal.outcome-now-requires-clause-freed
+outcome-now-requires-clause-freed c =
     let s = c.args.subject.now in
     c.loop-index.invariant.released
     ∙ ap (λ xs. released s.id.0 (reverse (take c.loop-index.index c.args.events.now)) (reverse xs)) (sym c.as_slice-so_far.ensures.value)
