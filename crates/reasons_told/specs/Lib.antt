@@ -1,0 +1,3 @@
+pub mod Order
+pub mod Attempts
+pub mod Texts
