@@ -1,13 +1,13 @@
 //! A line of the table.
 
-ghost use Rattle.std.specs.Prelude.{◌≡◌, ◌++◌, decimal, OnOk};
+ghost use Rattle.std.specs.Prelude.{◌≡◌, ◌<◌, ◌++◌, decimal, flat_map, OnOk};
+ghost use Rattle.line_forms.specs.Json.{escaped, hex, string_json};
 ghost use Rattle.contact_table.specs.Rows.{json_numbers, json_row, pair_text, plain_numbers};
 ghost use Rattle.contact_table.specs.Rows.{plain_row, row_text};
 
 use changed_notices::ChangeForm;
 use contact_tallies::Tally;
 use itoa::Buffer;
-use line_forms::push_string;
 use std::alloc::AllocError;
 
 /// Adds a number in decimal digits.
@@ -34,6 +34,53 @@ fn push_pair(
     push_decimal(text, before)?;
     text.extend_from_slice(mid)?;
     push_decimal(text, after)
+}
+
+/// The hexadecimal digit of a number below 16.
+fn hex(digit: u8) -> u8
+    requires { digit < 16 }
+    ensures { result ≡ hex digit }
+{
+    if digit < 10 {
+        b'0' + digit
+    } else {
+        b'a' - 10 + digit
+    }
+}
+
+/// Adds a byte of a string of JSON: a quote, a backslash and control characters are escaped.
+#[tactic(auto, unfolding(line_forms::specs::Json::escaped))]
+fn push_escaped(text: &mut Vec<u8>, byte: u8) -> Result<(), AllocError>
+    ensures { OnOk result (text.new.items ≡ text.old.items ++ escaped byte) }
+{
+    if byte == b'"' || byte == b'\\' {
+        return text.extend_from_slice(&[b'\\', byte]);
+    }
+    if byte < b' ' {
+        return text.extend_from_slice(&[b'\\', b'u', b'0', b'0', hex(byte / 16), hex(byte % 16)]);
+    }
+    text.extend_from_slice(&[byte])
+}
+
+/// Adds the bytes of a string of JSON.
+fn push_bytes(text: &mut Vec<u8>, bytes: &[u8]) -> Result<(), AllocError>
+    ensures { OnOk result (text.new.items ≡ text.old.items ++ flat_map escaped bytes.now) }
+{
+    for byte in bytes {
+        push_escaped(text, *byte)?;
+    }
+    Ok(())
+}
+
+/// Adds bytes as a string of JSON.
+#[tactic(auto, unfolding(line_forms::specs::Json::string_json))]
+fn push_string(text: &mut Vec<u8>, bytes: &[u8]) -> Result<(), AllocError>
+    ensures { OnOk result (text.new.items ≡ text.old.items ++ string_json bytes.now) }
+{
+    text.push(b'"')?;
+    push_bytes(text, bytes)?;
+    text.push(b'"')?;
+    Ok(())
 }
 
 /// Adds the numbers of a line of text.
