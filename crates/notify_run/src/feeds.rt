@@ -1,11 +1,12 @@
 //! The runs of a feed: of standard input, and of a file.
 
+use crate::faults::say_more_of_run;
 use crate::status_of_run;
 use command_line::{FeedWords, LogWords};
-use command_output::AnyWriter;
+use command_output::{AnyWriter, Ending};
 use due_model::zone::Zone;
 use feed_file::{Feed, FeedFile, FeedWays};
-use run_devices::{LogPlace, LoggedWords, RunSettings, do_logged_run, do_run};
+use run_devices::{LogPlace, LoggedWords, RunFault, RunSettings, do_logged_run, do_run};
 use std::io;
 use std::process::ExitCode;
 use std::rt::Stdin;
@@ -69,7 +70,8 @@ fn status_of_logged<T: Threads + Wait + Clock + Sync>(
     let feed = AnyReader::new(feed);
     let mut writer = AnyWriter::new(rt.stdout());
     let outcome = do_logged_run(rt, threads, zone, words, settings, feed, &mut writer);
-    status_of_run(rt, outcome.map(|done| done.ending))
+    let outcome = outcome.map(|done| done.ending);
+    status_of_done(rt, words.objects, words.channels, settings, outcome)
 }
 
 /// Does a run without a log, and gives its exit status.
@@ -94,5 +96,21 @@ fn status_of_new<T: Threads + Wait + Clock + Sync>(
         feed,
         &mut writer,
     );
-    status_of_run(rt, outcome.map(|done| done.ending))
+    let outcome = outcome.map(|done| done.ending);
+    status_of_done(rt, objects, channels, settings, outcome)
+}
+
+/// Says on standard error what a run failed with, if it did, and why, and gives its exit status.
+fn status_of_done(
+    rt: &HostRuntime,
+    objects: &str,
+    channels: Option<&[&str]>,
+    settings: RunSettings,
+    outcome: Result<Ending, RunFault<'_>>,
+) -> ExitCode {
+    let status = status_of_run(rt, outcome);
+    if let Err(fault) = outcome {
+        say_more_of_run(rt, objects, channels, settings, fault);
+    }
+    status
 }

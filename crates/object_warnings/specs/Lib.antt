@@ -6,3 +6,5 @@ pub mod Directives
 pub mod Criteria
 pub mod Periods
 pub mod Overridden
+pub mod Hours
+pub mod Unused

@@ -5,6 +5,7 @@
 pub mod criteria;
 pub mod directives;
 pub mod escalations;
+pub mod hours;
 pub mod lines;
 mod numbers;
 pub mod objects;
@@ -12,4 +13,6 @@ pub mod overridden;
 pub mod passed_over;
 pub mod periods;
 pub mod tables;
+pub mod unused;
 pub mod warning;
+mod week;

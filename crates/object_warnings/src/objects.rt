@@ -29,7 +29,7 @@ fn has_some_letter(options: OptionLetters) -> bool
 }
 
 /// Whether notifications about an object may be sent: they are enabled, and its options have a letter.
-fn can_notify(object: &Object) -> bool
+pub(crate) fn can_notify(object: &Object) -> bool
     ensures { result ≡ can_notify object.now }
 {
     object.enabled && has_some_letter(object.options)
@@ -47,7 +47,7 @@ fn lacks_problems(object: &Object) -> bool
 }
 
 /// What the contact is notified of for the object's kind.
-fn rights_of<'a>(object: &Object, contact: &'a Contact) -> &'a Rights
+pub(crate) fn rights_of<'a>(object: &Object, contact: &'a Contact) -> &'a Rights
     ensures { result.now ≡ rights_of object.now contact.now }
 {
     match object.host {
@@ -93,7 +93,7 @@ fn tell_by(config: &Config, object: &Object, places: &[usize]) -> bool
 }
 
 /// Whether a contact with a command for the object's kind is told of it: one of its own, or of its escalations.
-fn is_told(config: &Config, number: ObjectId, object: &Object) -> bool
+pub(crate) fn is_told(config: &Config, number: ObjectId, object: &Object) -> bool
     ensures { result ≡ is_told config.now number.0 object.now }
 {
     have_command(config, object, object.contacts.as_slice())
@@ -108,7 +108,7 @@ fn tells_nobody(config: &Config, number: ObjectId, object: &Object) -> bool
 }
 
 /// An object by its number.
-fn object_id(number: usize) -> ObjectId
+pub(crate) fn object_id(number: usize) -> ObjectId
     requires { number ≤ max_objects }
     ensures { result.0 ≡ number }
 {

@@ -9,12 +9,16 @@ pub enum Warning {
     WithoutEffect,
     /// An object that can notify has no contact with a command for its kind.
     NobodyTold,
+    /// There is a time of a week at which an object's period holds, and no contact's does.
+    NoHours,
     /// A period never holds within 400 days.
     NeverHours,
     /// An escalation matches no number that can come.
     DeadEscalation,
     /// A dependency holds nothing back.
     NoCriteria,
+    /// Nothing names an object or a template.
+    Unused,
     /// A directive is given twice in a block, by other values.
     Overridden,
     /// A period isn't always, and no zone is given.
@@ -30,9 +34,11 @@ impl Warning {
             Warning::UnknownDirective => "UnknownDirective",
             Warning::WithoutEffect => "WithoutEffect",
             Warning::NobodyTold => "NobodyTold",
+            Warning::NoHours => "NoHours",
             Warning::NeverHours => "NeverHours",
             Warning::DeadEscalation => "DeadEscalation",
             Warning::NoCriteria => "NoCriteria",
+            Warning::Unused => "Unused",
             Warning::Overridden => "Overridden",
             Warning::NoZone => "NoZone",
             Warning::MissingOption => "MissingOption",
@@ -41,13 +47,15 @@ impl Warning {
 }
 
 /// All of them.
-pub const ALL: [Warning; 9] = [
+pub const ALL: [Warning; 11] = [
     Warning::UnknownDirective,
     Warning::WithoutEffect,
     Warning::NobodyTold,
+    Warning::NoHours,
     Warning::NeverHours,
     Warning::DeadEscalation,
     Warning::NoCriteria,
+    Warning::Unused,
     Warning::Overridden,
     Warning::NoZone,
     Warning::MissingOption,

@@ -105,6 +105,25 @@ fn line_hint(line: &[u8], fault: LineFault) -> Option<&'static str> {
     }
 }
 
+/// Adds the line that tells what is wrong with a line.
+fn push_plain_line_fault(
+    text: &mut Vec<u8>,
+    sources: &[Source<'_>],
+    line: &[u8],
+    number: u64,
+    fault: LineFault,
+) -> Result<(), AllocError> {
+    push_place(text, sources, number)?;
+    push(text, fault.name())?;
+    push(text, ": ")?;
+    match line_hint(line, fault) {
+        Some(words) => push(text, words)?,
+        None => push_value(text, line)?,
+    }
+    text.push(b'\n')?;
+    Ok(())
+}
+
 /// Adds what is wrong with a line.
 fn push_line_fault(
     text: &mut Vec<u8>,
@@ -113,26 +132,15 @@ fn push_line_fault(
     number: u64,
     fault: LineFault,
 ) -> Result<(), AllocError> {
-    let hint = line_hint(line, fault);
-    if form.json {
-        begin(text, form.sources, number)?;
-        push_member(text, "fault", fault.name().as_bytes())?;
-        if let Some(words) = hint {
-            push_member(text, "detail", words.as_bytes())?;
-        }
-        return push(text, "}\n");
+    if !form.json {
+        return push_plain_line_fault(text, form.sources, line, number, fault);
     }
-    push_place(text, form.sources, number)?;
-    push(text, fault.name())?;
-    if let Some(words) = hint {
-        push(text, ": ")?;
-        push(text, words)?;
-    } else {
-        push(text, ": ")?;
-        push_value(text, line)?;
+    begin(text, form.sources, number)?;
+    push_member(text, "fault", fault.name().as_bytes())?;
+    if let Some(words) = line_hint(line, fault) {
+        push_member(text, "detail", words.as_bytes())?;
     }
-    text.push(b'\n')?;
-    Ok(())
+    push(text, "}\n")
 }
 
 /// The report of a text that isn't blocks: its first line with a fault.
@@ -370,6 +378,55 @@ fn refused_text(
     match read(alloc, text) {
         Ok(blocks) => refused(alloc, form, blocks.as_slice(), line, fault),
         Err(_) => Err(AllocError),
+    }
+}
+
+/// The place among the told faults of the one that loading answers.
+fn place_of(blocks: &[Block], tellings: &[Telling<'_>], line: u64, fault: BlockFault) -> usize {
+    let found = tellings.iter().position(|telling| match blocks.get(telling.user) {
+        Some(block) => block.line == line && telling.fault == fault,
+        None => false,
+    });
+    found.unwrap_or(0)
+}
+
+/// The lines that tell the fault of a block that loading answers.
+fn told_block(
+    alloc: Global,
+    sources: &[Source<'_>],
+    blocks: &[Block],
+    line: u64,
+    fault: BlockFault,
+) -> Result<Vec<u8>, AllocError> {
+    let tellings = tell_blocks(alloc, blocks, line, fault)?;
+    let place = place_of(blocks, tellings.as_slice(), line, fault);
+    let mut text = Vec::new(alloc);
+    if let Some(telling) = tellings.as_slice().get(place) {
+        push_telling(&mut text, sources, blocks, telling)?;
+    }
+    Ok(text)
+}
+
+/// The lines that tell the one fault that loading object text answers, as `check` tells it. Empty where nothing more is to be
+/// said.
+pub fn told(
+    alloc: Global,
+    sources: &[Source<'_>],
+    text: &[u8],
+    fault: LoadFault,
+) -> Result<Vec<u8>, AllocError> {
+    match fault {
+        LoadFault::NoMemory => Err(AllocError),
+        LoadFault::TooLarge => Ok(Vec::new(alloc)),
+        LoadFault::Line { line, fault } => {
+            let mut report = Vec::new(alloc);
+            push_plain_line_fault(&mut report, sources, line_at(text, line), line, fault)?;
+            Ok(report)
+        }
+        LoadFault::Block { line, fault } => match read(alloc, text) {
+            Ok(blocks) => told_block(alloc, sources, blocks.as_slice(), line, fault),
+            Err(_) => Ok(Vec::new(alloc)),
+        },
     }
 }
 

@@ -7,7 +7,7 @@ mod origins;
 mod warned;
 mod warned_forms;
 
-pub use checking::{Checked, Form, check};
+pub use checking::{Checked, Form, check, told};
 
 #[cfg(test)]
 mod tests;

@@ -8,17 +8,21 @@ use due_model::config::Config;
 use due_model::limits::LAST_MOMENT;
 use faults_told::near::nearest;
 use object_groups::names::Names;
+use object_groups::objects::name_directive;
 use object_inheritance::templates::Templates;
+use object_names::named::{NamedKind, NamedObjects};
 use object_reader::block::{Block, BlockKind, Directive};
 use object_warnings::criteria::without_criteria;
 use object_warnings::directives::{firsts, lines_where};
 use object_warnings::escalations::dead;
+use object_warnings::hours::{Span, without_hours};
 use object_warnings::lines::{Line, Test};
 use object_warnings::objects::{untold, without_problems};
 use object_warnings::overridden::overridden;
 use object_warnings::passed_over::passed_over;
 use object_warnings::periods::{never, without_zone};
 use object_warnings::tables::read_here;
+use object_warnings::unused::{unused, unused_templates};
 use object_warnings::warning::Warning;
 use std::alloc::{AllocError, Global};
 use time_period::compile::compile_all;
@@ -38,6 +42,8 @@ pub(crate) struct Warned<'a> {
     pub(crate) near: Option<&'a [u8]>,
     /// How often the text has it.
     pub(crate) times: usize,
+    /// The time of a week that it is about, if it is about one.
+    pub(crate) span: Option<Span>,
 }
 
 /// At most so many warnings are told with a near name.
@@ -52,6 +58,7 @@ fn about<'a>(warning: Warning, place: usize, directive: &'a str) -> Warned<'a> {
         value: &[],
         near: None,
         times: 1,
+        span: None,
     }
 }
 
@@ -64,6 +71,7 @@ fn about_line<'a>(warning: Warning, place: usize, directive: &'a Directive) -> W
         value: directive.value.as_slice(),
         near: None,
         times: 1,
+        span: None,
     }
 }
 
@@ -161,6 +169,7 @@ fn add_passed_over<'a>(
                 value: &[],
                 near: None,
                 times: count_of(&names, name),
+                span: None,
             })?;
         }
     }
@@ -248,6 +257,25 @@ fn add_dead<'a>(
     Ok(())
 }
 
+/// Adds what is told of objects at some time of whose week nobody is told.
+fn add_without_hours<'a>(
+    alloc: Global,
+    config: &Config,
+    places: &[usize],
+    warned: &mut Vec<Warned<'a>>,
+) -> Result<(), AllocError>
+    requires { IsAccepted config.now }
+{
+    for (number, span) in without_hours(alloc, config)?.as_slice().iter().enumerate() {
+        if let (Some(_), Some(place)) = (*span, places.get(number)) {
+            let mut one = about(Warning::NoHours, *place, "");
+            one.span = *span;
+            warned.push(one)?;
+        }
+    }
+    Ok(())
+}
+
 /// Adds what is told of the hosts and services.
 fn add_of_objects<'a>(
     alloc: Global,
@@ -275,6 +303,7 @@ fn add_of_objects<'a>(
         places.as_slice(),
         warned,
     )?;
+    add_without_hours(alloc, config, places.as_slice(), warned)?;
     add_dead(alloc, config, places.as_slice(), warned)
 }
 
@@ -290,9 +319,13 @@ fn add_of_periods<'a>(
 {
     let places = period_places(alloc, templates)?;
     let partial = without_zone(alloc, config, form.has_zone)?;
-    if let [first, ..] = partial.as_slice() {
-        add_numbers(Warning::NoZone, "", &[*first], places.as_slice(), warned)?;
-    }
+    add_numbers(
+        Warning::NoZone,
+        "",
+        partial.as_slice(),
+        places.as_slice(),
+        warned,
+    )?;
     let compiled = compile_all(alloc, config)?;
     let clock = ZoneClock::new(form.zone);
     let empty = never(
@@ -310,6 +343,65 @@ fn add_of_periods<'a>(
     )
 }
 
+/// The types of object of which it is told that nothing names them.
+const USED: [NamedKind; 6] = [
+    NamedKind::HostGroup,
+    NamedKind::ServiceGroup,
+    NamedKind::Contact,
+    NamedKind::ContactGroup,
+    NamedKind::TimePeriod,
+    NamedKind::Command,
+];
+
+/// The types of block that have templates.
+const TEMPLATES: [BlockKind; 12] = [
+    BlockKind::Host,
+    BlockKind::HostGroup,
+    BlockKind::Service,
+    BlockKind::ServiceGroup,
+    BlockKind::Contact,
+    BlockKind::ContactGroup,
+    BlockKind::TimePeriod,
+    BlockKind::Command,
+    BlockKind::HostEscalation,
+    BlockKind::ServiceEscalation,
+    BlockKind::HostDependency,
+    BlockKind::ServiceDependency,
+];
+
+/// Adds what is told of objects that nothing names.
+fn add_unused<'a>(
+    alloc: Global,
+    templates: &Templates<'_>,
+    warned: &mut Vec<Warned<'a>>,
+) -> Result<(), AllocError> {
+    let objects = NamedObjects::new(alloc, templates)?;
+    for kind in USED {
+        let numbers = unused(alloc, templates, kind)?;
+        add_numbers(
+            Warning::Unused,
+            name_directive(kind.block_kind()),
+            numbers.as_slice(),
+            objects.objects(kind).places(),
+            warned,
+        )?;
+    }
+    Ok(())
+}
+
+/// Adds what is told of templates that nothing names.
+fn add_unused_templates<'a>(
+    alloc: Global,
+    blocks: &[Block],
+    warned: &mut Vec<Warned<'a>>,
+) -> Result<(), AllocError> {
+    for kind in TEMPLATES {
+        let places = unused_templates(alloc, blocks, kind)?;
+        add_places(Warning::Unused, "name", places.as_slice(), warned)?;
+    }
+    Ok(())
+}
+
 /// Adds what is told of a configuration.
 pub(crate) fn add_of_config<'a>(
     alloc: Global,
@@ -320,6 +412,8 @@ pub(crate) fn add_of_config<'a>(
 ) -> Result<(), AllocError>
     requires { IsAccepted config.now }
 {
+    add_unused(alloc, templates, warned)?;
+    add_unused_templates(alloc, templates.blocks(), warned)?;
     add_of_objects(alloc, templates, config, warned)?;
     add_of_periods(alloc, form, templates, config, warned)
 }

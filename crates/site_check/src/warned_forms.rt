@@ -12,8 +12,67 @@ use faults_told::text_forms::{push, push_holder, push_name, push_number, push_pl
 use object_inheritance::templates::Templates;
 use object_reader::block::Block;
 use object_reader::reading::read;
+use object_warnings::hours::Span;
 use object_warnings::warning::Warning;
 use std::alloc::{AllocError, Global};
+
+/// The names of the days of a week.
+const DAYS: [&str; 7] = [
+    "Monday",
+    "Tuesday",
+    "Wednesday",
+    "Thursday",
+    "Friday",
+    "Saturday",
+    "Sunday",
+];
+
+/// Adds a number of two digits.
+fn push_two(text: &mut Vec<u8>, number: u16) -> Result<(), AllocError> {
+    if number < 10 {
+        text.push(b'0')?;
+    }
+    push_number(text, u64::from(number))
+}
+
+/// Adds a time of day; 24:00 is the end of a day.
+fn push_time(text: &mut Vec<u8>, minute: u16) -> Result<(), AllocError> {
+    push_two(text, minute / 60)?;
+    text.push(b':')?;
+    push_two(text, minute % 60)
+}
+
+/// Adds the name of the day in which a minute of the week stands.
+fn push_day(text: &mut Vec<u8>, minute: u16) -> Result<(), AllocError> {
+    match DAYS.get(usize::from(minute / 1440)) {
+        Some(name) => push(text, name),
+        None => Ok(()),
+    }
+}
+
+/// Adds minutes of a week: from a day and a time to a time, of another day where it is one.
+fn push_span(text: &mut Vec<u8>, span: Span) -> Result<(), AllocError> {
+    let last = span.end.saturating_sub(1);
+    push_day(text, span.start)?;
+    text.push(b' ')?;
+    push_time(text, span.start % 1440)?;
+    push(text, " to ")?;
+    if last / 1440 != span.start / 1440 {
+        push_day(text, last)?;
+        text.push(b' ')?;
+    }
+    push_time(text, (last % 1440).saturating_add(1))
+}
+
+/// Adds when it is that no contact is told.
+fn push_hours(text: &mut Vec<u8>, span: Option<Span>) -> Result<(), AllocError> {
+    push(text, "no contact's period holds")?;
+    if let Some(minutes) = span {
+        push(text, " from ")?;
+        push_span(text, minutes)?;
+    }
+    push(text, ", where its own does")
+}
 
 /// Adds what is wrong.
 fn push_reason(text: &mut Vec<u8>, block: &Block, warned: &Warned<'_>) -> Result<(), AllocError> {
@@ -32,9 +91,11 @@ fn push_reason(text: &mut Vec<u8>, block: &Block, warned: &Warned<'_>) -> Result
             Ok(())
         }
         Warning::NobodyTold => push(text, "no contact has a command for its notifications"),
+        Warning::NoHours => push_hours(text, warned.span),
         Warning::NeverHours => push(text, "never holds within 400 days"),
         Warning::DeadEscalation => push(text, "an escalation matches no number that can come"),
         Warning::NoCriteria => push(text, "holds nothing back"),
+        Warning::Unused => push(text, "nothing names it"),
         Warning::Overridden => {
             push_value(text, warned.value)?;
             push(text, " is given beside another value")
