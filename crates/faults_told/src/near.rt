@@ -1,5 +1,7 @@
 //! Names that are like a name.
 
+ghost use Rattle.std.specs.Prelude.{Contains, IfOk, IfSome};
+
 use std::alloc::{AllocError, Global};
 use std::str;
 use strsim::jaro_winkler;
@@ -24,18 +26,22 @@ pub fn nearest<'a>(
     alloc: Global,
     name: &[u8],
     names: &[&'a [u8]],
-) -> Result<Option<&'a [u8]>, AllocError> {
+) -> Result<Option<&'a [u8]>, AllocError>
+    // What is told is one of the names.
+    ensures { IfOk result (λ found. IfSome found (Contains names.now)) }
+{
     let mut best = LIKE;
     let mut found = None;
     if name.len() > 64 {
         return Ok(None);
     }
-    for other in names.iter().take(MOST_NAMES) {
+    for number in 0..names.len().min(MOST_NAMES) {
+        let other = names[number];
         if other.len() <= 64 {
-            let like = likeness(alloc, name, *other)?;
+            let like = likeness(alloc, name, other)?;
             if like > best || (found.is_none() && like >= best) {
                 best = like;
-                found = Some(*other);
+                found = Some(other);
             }
         }
     }

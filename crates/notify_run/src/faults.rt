@@ -6,11 +6,24 @@ use faults_told::located::Source;
 use object_faults::load_fault::LoadFault;
 use run_devices::{RunFault, RunSettings};
 use site_check::told;
-use std::fs::{File, OpenOptions};
+use std::fs::{File, OpenOptions, metadata};
 use std::io::{self, Read, Write};
 use std::net::{TcpStream, ToSocketAddrs};
 use std::time::Duration;
 use text_lines::{AnyReader, LineReader, TextFault};
+
+/// Where the machine has standard input as a file.
+const INPUT: &str = "/dev/stdin";
+
+/// The text that was read, or what a command fails with.
+fn read_as(read: Result<Vec<u8>, TextFault>) -> Result<Vec<u8>, CommandFault> {
+    match read {
+        Ok(text) => Ok(text),
+        Err(TextFault::Unreadable) => Err(CommandFault::Unreadable),
+        Err(TextFault::TooLarge) => Err(CommandFault::Objects(LoadFault::TooLarge)),
+        Err(TextFault::NoMemory) => Err(CommandFault::NoMemory),
+    }
+}
 
 /// The text of a file.
 pub(crate) fn file_text(rt: &HostRuntime, path: &str) -> Result<Vec<u8>, CommandFault> {
@@ -18,11 +31,23 @@ pub(crate) fn file_text(rt: &HostRuntime, path: &str) -> Result<Vec<u8>, Command
         return Err(CommandFault::Unreadable);
     };
     let mut lines = LineReader::new(rt.alloc(), AnyReader::new(file))?;
-    match lines.read_text(rt.alloc(), None) {
-        Ok(text) => Ok(text),
-        Err(TextFault::Unreadable) => Err(CommandFault::Unreadable),
-        Err(TextFault::TooLarge) => Err(CommandFault::Objects(LoadFault::TooLarge)),
-        Err(TextFault::NoMemory) => Err(CommandFault::NoMemory),
+    read_as(lines.read_text(rt.alloc(), None))
+}
+
+/// The object text at the head of a file.
+fn head_text(rt: &HostRuntime, path: &str) -> Result<Vec<u8>, CommandFault> {
+    let Ok(file) = File::open(rt, path) else {
+        return Err(CommandFault::Unreadable);
+    };
+    let mut lines = LineReader::new(rt.alloc(), AnyReader::new(file))?;
+    read_as(lines.read_text(rt.alloc(), Some("%events".as_bytes())))
+}
+
+/// Whether a file is at the path, and no pipe or folder.
+fn is_file(rt: &HostRuntime, path: &str) -> bool {
+    match metadata(rt, path) {
+        Ok(data) => data.is_file(),
+        Err(_) => false,
     }
 }
 
@@ -40,16 +65,10 @@ fn say_unreadable(rt: &HostRuntime, path: &str) {
     }
 }
 
-/// Says where the fault of the object text in the file at a path stands.
-fn say_load_fault(rt: &HostRuntime, path: &str, fault: LoadFault) {
-    let Ok(text) = file_text(rt, path) else {
-        return;
-    };
-    let sources = [Source {
-        name: path,
-        before: 0,
-    }];
-    if let Ok(lines) = told(rt.alloc(), &sources, text.as_slice(), fault) {
+/// Says where the fault of object text stands.
+fn say_told(rt: &HostRuntime, name: &str, text: &[u8], fault: LoadFault) {
+    let sources = [Source { name, before: 0 }];
+    if let Ok(lines) = told(rt.alloc(), &sources, text, fault) {
         let mut errors = rt.stderr();
         let _ = errors.write_all(lines.as_slice());
         let _ = errors.flush();
@@ -60,8 +79,23 @@ fn say_load_fault(rt: &HostRuntime, path: &str, fault: LoadFault) {
 pub(crate) fn say_more(rt: &HostRuntime, path: &str, fault: CommandFault) {
     match fault {
         CommandFault::Unreadable => say_unreadable(rt, path),
-        CommandFault::Objects(load_fault) => say_load_fault(rt, path, load_fault),
+        CommandFault::Objects(load_fault) => {
+            if let Ok(text) = file_text(rt, path) {
+                say_told(rt, path, text.as_slice(), load_fault);
+            }
+        }
         _ => {}
+    }
+}
+
+/// The same of a command that has read it from standard input: where that is a file, which can be read again.
+pub(crate) fn say_more_of_input(rt: &HostRuntime, fault: CommandFault) {
+    if let CommandFault::Objects(load_fault) = fault {
+        if is_file(rt, INPUT) {
+            if let Ok(text) = head_text(rt, INPUT) {
+                say_told(rt, "standard input", text.as_slice(), load_fault);
+            }
+        }
     }
 }
 

@@ -27,7 +27,7 @@ use command_line::{Request, ShownWords, command, request_of};
 use command_output::{AnyWriter, CommandFault, Ending, exit_status};
 use diff::status_of_diff;
 use due_model::zone::Zone;
-use faults::say_more;
+use faults::{say_more, say_more_of_input};
 use feeds::status_of_feed;
 use line_forms::Picks;
 use pretty::pretty_through;
@@ -198,7 +198,18 @@ fn do_trace(
     trace_in(rt.alloc(), zone, settings, standbys, input, &mut writer)
 }
 
-/// Says on standard error what a replay failed with, if it did, and gives its exit status.
+/// The same of a command that has read it from standard input.
+fn status_of_input(rt: &HostRuntime, outcome: Result<Ending, CommandFault>) -> ExitCode
+    ensures { exit_status result ≡ outcome_status outcome }
+{
+    let status = status_of(rt, outcome);
+    if let Err(fault) = outcome {
+        say_more_of_input(rt, fault);
+    }
+    status
+}
+
+/// Says on standard error what a replay failed with, if it did, and where or why, and gives its exit status.
 fn status_of_replay(
     rt: &HostRuntime,
     objects: Option<&str>,
@@ -208,7 +219,7 @@ fn status_of_replay(
 {
     match objects {
         Some(path) => status_at(rt, path, outcome),
-        None => status_of(rt, outcome),
+        None => status_of_input(rt, outcome),
     }
 }
 
@@ -263,27 +274,25 @@ fn status_of_request<T: Threads + Wait + Clock + Sync>(
         Ok(zone) => zone,
         Err(fault) => return status_of_zone(rt, words, fault),
     };
-    let outcome = match request {
+    match request {
         Request::Replay { objects, shown, .. } => {
             let outcome = do_replay(rt, &zone, objects, shown);
-            return status_of_replay(rt, objects, outcome);
+            status_of_replay(rt, objects, outcome)
         }
         Request::Trace {
             settings,
             standbys,
             ..
-        } => do_trace(rt, &zone, settings, standbys),
-        Request::Who { objects, asked, .. } => {
-            return status_of_who(rt, threads, &zone, objects, asked);
-        }
+        } => status_of_input(rt, do_trace(rt, &zone, settings, standbys)),
+        Request::Who { objects, asked, .. } => status_of_who(rt, threads, &zone, objects, asked),
         Request::Diff {
             objects,
             changed,
             json,
             ..
-        } => return status_of_diff(rt, &zone, objects, changed, json),
-        Request::Why { objects, asked, .. } => return status_of_why(rt, &zone, objects, asked),
-        Request::Check { asked, .. } => return status_of_check(rt, &zone, words.is_given(), asked),
+        } => status_of_diff(rt, &zone, objects, changed, json),
+        Request::Why { objects, asked, .. } => status_of_why(rt, &zone, objects, asked),
+        Request::Check { asked, .. } => status_of_check(rt, &zone, words.is_given(), asked),
         Request::Run {
             objects,
             settings,
@@ -302,10 +311,9 @@ fn status_of_request<T: Threads + Wait + Clock + Sync>(
                 quiet,
                 ahead,
             };
-            return status_of_feed(rt, threads, &zone, objects, settings, channels, log, feed);
+            status_of_feed(rt, threads, &zone, objects, settings, channels, log, feed)
         }
-    };
-    status_of(rt, outcome)
+    }
 }
 
 fn main(rt: HostRuntime) -> ExitCode {

@@ -1,12 +1,12 @@
 //! Objects and templates that nothing names (chapters "Object Definitions" and "Object Inheritance").
 
-ghost use Rattle.std.specs.Prelude.{◌≡◌, ◌++◌, [], flat_map, length, map, slice_index_or, IfOk, OnOk};
+ghost use Rattle.std.specs.Prelude.{◌≡◌, ◌++◌, codes, flat_map, length, map, slice_index_or, IfOk, OnOk};
 ghost use Rattle.std.specs.Option.{option_copied};
-ghost use Rattle.object_check.specs.Rows.{name_rows, said_by};
+ghost use Rattle.object_check.specs.Rows.{said_by};
 ghost use Rattle.object_groups.specs.Objects.{objects_in};
 ghost use Rattle.object_inheritance.specs.Inherited.{is_additive, name_of, own_entries};
 ghost use Rattle.object_names.specs.Named.{block_kind};
-ghost use Rattle.object_values.specs.Values.{command_name, texts, value_in};
+ghost use Rattle.object_values.specs.Values.{command_name, texts};
 ghost use Rattle.object_warnings.specs.Numbers.{numbers_where};
 ghost use Rattle.object_warnings.specs.Unused.{has_unused_name, is_kind, is_named, is_template};
 ghost use Rattle.object_warnings.specs.Unused.{is_unused, is_unused_at, is_unused_template, joins};
