@@ -112,9 +112,13 @@ abbrev pub flags_at : Config → (minute : ℕ) → List Bool
 flags_at weekly minute = map (λ number. in_period weekly Utc (Some (record { 0 = number })) (moment_of minute))
     (range_with_len 0 (length weekly.periods))
 
--- those of all minutes
+-- those of so many minutes
+unfoldable pub rows_upto : Config → (count : ℕ) → List (List Bool)
+rows_upto weekly count = map (flags_at weekly) (range_with_len 0 count)
+
+-- those of all
 abbrev pub rows_of : Config → List (List Bool)
-rows_of weekly = map (flags_at weekly) (range_with_len 0 week)
+rows_of weekly = rows_upto weekly week
 
 -- the flags stay from the minute on up to the end
 pub record Stays (rows : List (List Bool)) (minute end : ℕ) : Type 0 where

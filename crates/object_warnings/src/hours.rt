@@ -1,12 +1,12 @@
 //! Objects of which nobody is told at some time of a week (chapters "Notifications" and "Time Periods").
 
-ghost use Rattle.std.specs.Prelude.{◌≡◌, ℕ, ◌<◌, ◌≤◌, not, length, IfOk};
+ghost use Rattle.std.specs.Prelude.{◌≡◌, ℕ, ◌<◌, ◌≤◌, ◌&&◌, not, length, IfOk};
 ghost use Rattle.std.specs.List.{list_any};
 ghost use Rattle.due_model.specs.Accepted.{IsAccepted};
-ghost use Rattle.due_model.specs.Limits.{max_objects};
 ghost use Rattle.object_warnings.specs.Hours.{AreFirst, IsFirst, flag, has_hours, has_hours_by};
-ghost use Rattle.object_warnings.specs.Hours.{is_covered, is_gap, is_gap_at, row_at, rows_of};
+ghost use Rattle.object_warnings.specs.Hours.{is_covered, is_gap, lacks_hours, row_at, rows_of};
 ghost use Rattle.object_warnings.specs.Hours.{week, weekly};
+ghost use Rattle.object_warnings.specs.Objects.{can_notify, is_told};
 
 use crate::objects::{can_notify, is_told, object_id, rights_of};
 use crate::week::{WEEK, Week, weekly};

@@ -1,9 +1,9 @@
 //! Which periods hold at each minute of a week, holidays apart (chapter "Time Periods").
 
-ghost use Rattle.std.specs.Prelude.{◌≡◌, ℕ, ◌<◌, ◌≤◌, length, map, true, IfOk};
-ghost use Rattle.std.specs.List.{range_with_len};
+ghost use Rattle.std.specs.Prelude.{◌≡◌, ◌+◌, ◌<◌, ◌≤◌, length, map, true, IfOk, Some};
 ghost use Rattle.due_model.specs.Accepted.{IsAccepted};
 ghost use Rattle.due_model.specs.declared.config.Config.{Config};
+ghost use Rattle.due_model.specs.declared.zone.Zone.TheVariants.{Utc};
 ghost use Rattle.due_model.specs.Limits.{last_moment};
 ghost use Rattle.due_model.specs.Periods.{in_period};
 ghost use Rattle.object_warnings.specs.Hours.{AreEnds, Stays, flags_at, moment_of, plain, row_at};
@@ -125,7 +125,8 @@ fn flags_at(
 
 /// Which hold at each minute.
 fn rows_of(alloc: Global, periods: &[Compiled]) -> Result<Vec<Vec<bool>>, AllocError>
-    ensures { IfOk result (λ rows. (c : Config) → AreCompiled c periods.now
+    ensures long { IfOk result (λ rows. length rows.items ≡ week) }
+    ensures rows { IfOk result (λ rows. (c : Config) → AreCompiled c periods.now
         → map (λ row. row.items) rows.items ≡ rows_of c) }
 {
     let zone = Zone::Utc;
@@ -159,12 +160,19 @@ fn end_of(rows: &[Vec<bool>], ends: &[u16], minute: usize) -> u16
     }
 }
 
+/// So many ends.
+fn no_ends(alloc: Global, count: usize) -> Result<Vec<u16>, AllocError>
+    ensures { IfOk result (λ ends. length ends.items ≡ count) }
+{
+    vec![in alloc; 0; count]
+}
+
 /// The end up to which the flags of each minute stay.
 fn ends_of(alloc: Global, rows: &[Vec<bool>]) -> Result<Vec<u16>, AllocError>
     requires { length rows.now ≡ week }
     ensures { IfOk result (λ ends. AreEnds (map (λ row. row.items) rows.now) 0 ends.items) }
 {
-    let mut ends = vec![in alloc; 0; WEEK]?;
+    let mut ends = no_ends(alloc, WEEK)?;
     let mut minute = WEEK;
     while minute > 0 {
         minute -= 1;
