@@ -52,11 +52,11 @@ named_by kind block row = if kind_number block.kind == kind_number row.kind
     then names_by kind row.must (value_in block.directives row.directive) else []
 
 -- those that it has by all its directives
-abbrev pub named_in : NamedKind → Block → List (List ℕ)
+unfoldable pub named_in : NamedKind → Block → List (List ℕ)
 named_in kind block = flat_map (named_by kind block) name_rows
 
 -- what the blocks name of the type
-unfoldable pub named_of : List Block → NamedKind → List (List ℕ)
+abbrev pub named_of : List Block → NamedKind → List (List ℕ)
 named_of blocks kind = flat_map (named_in kind) blocks
 
 -- ---- objects
@@ -104,7 +104,7 @@ used_in kind block = if kind_number block.kind == kind_number kind
     then entries_of (value_in block.directives (codes "use")) else []
 
 -- those that the blocks of the type use
-unfoldable pub used_of : List Block → BlockKind → List (List ℕ)
+abbrev pub used_of : List Block → BlockKind → List (List ℕ)
 used_of blocks kind = flat_map (used_in kind) blocks
 
 -- whether a block is a template alone: it isn't registered
