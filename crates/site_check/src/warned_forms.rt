@@ -45,7 +45,7 @@ fn push_time(text: &mut Vec<u8>, minute: u16) -> Result<(), AllocError> {
 /// Adds the name of the day in which a minute of the week stands.
 fn push_day(text: &mut Vec<u8>, minute: u16) -> Result<(), AllocError> {
     match DAYS.get(usize::from(minute / 1440)) {
-        Some(name) => push(text, name),
+        Some(name) => push(text, *name),
         None => Ok(()),
     }
 }
