@@ -22,7 +22,7 @@ unplain (Some one) period is = (one, refl, sym (ap (λ (p : Period). p.excludes)
 
 module _ (c : Config) (accepted : IsAccepted c) where
   as_many : length (weekly c).periods ≡ length c.periods
-  as_many = length-map plain c.periods
+  as_many = length-map c.periods plain
 
   plain-fits : (period : Period) → PeriodFits c period → PeriodFits (weekly c) (plain period)
   plain-fits period fits = record {

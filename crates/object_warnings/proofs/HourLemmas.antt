@@ -5,8 +5,9 @@ use Rattle.std.specs.List.{list_any, range_with_len}
 use Rattle.std.specs.Option.{option_map_or}
 use Rattle.std.proofs.lemmas.Bool.{cases_eq, cases_lt, eqb-false, false≢true}
 use Rattle.std.proofs.Math.Seq.{get_or-append_seam}
-use Rattle.std.proofs.lemmas.List.{get_or_append_left, length-set, map-append}
+use Rattle.std.proofs.lemmas.List.{get_or-map, get_or_append_left, get_or_default, length-set, map-append}
 use Rattle.std.proofs.lemmas.List.FromFn.{get_or-map-range_with_len, length-map-range_with_len, map-range_with_len_more}
+use Rattle.lemmas.proofs.Lists.{slice_get_read}
 use Rattle.lemmas.proofs.Writes.{at_set}
 use Rattle.due_model.specs.Periods.{holds, in_period, in_range, ranges_at}
 use Rattle.due_model.specs.Local.{Local}
@@ -64,6 +65,43 @@ stays-on rows minute end same stays = record {
     either : (k : ℕ) → minute ≤ k → k < end → (minute ≡ k) ⊎ (minute ≡ k → ⊥) → row_at rows k ≡ row_at rows minute
     either k low high (inl is) = ap (row_at rows) (sym is)
     either k low high (inr other) = stays.same k (omega (arith, low, other)) high ∙ sym same
+
+-- the next minute has an end, and the same flags
+pub stays-next : (rows : List (List Bool)) (ends : List ℕ) (minute end : ℕ) → AreEnds rows (minute + 1) ends → minute + 1 < week → end ≡ get_or ends (minute + 1) end
+    → row_at rows minute ≡ row_at rows (minute + 1) → Stays rows minute end
+stays-next rows ends minute end are within is same =
+    stays-on rows minute end same
+    (subst (Stays rows (minute + 1)) (sym (is ∙ get_or_default ends (minute + 1) end 0 (let long = are.as_many in omega (arith, long, within))))
+    (are.each (minute + 1) (omega arith) within))
+
+-- two rows with the same flags
+pub rows-same : {C : Type 0} (items : C → List Bool) (rows : List C) (i j : ℕ) (x y : C) (one other : List Bool) → i < length rows → j < length rows → x ≡ get_or rows i x → y ≡ get_or rows j y
+    → one ≡ items x → other ≡ items y → one ≡ other → row_at (map items rows) i ≡ row_at (map items rows) j
+rows-same items rows i j x y one other low high is_x is_y one_is other_is same =
+    get_or-map items rows i x [] low ∙ sym (ap items is_x) ∙ sym one_is ∙ same ∙ other_is ∙ ap items is_y ∙ sym (get_or-map items rows j y [] high)
+
+-- ---- minutes from one on
+
+pub as-wanted : (so wanted result : Bool) → result ≡ cond wanted so (not so) → result ≡ true → so ≡ wanted
+as-wanted true true result is told = refl
+as-wanted false false result is told = refl
+as-wanted true false result is told = absurd (false≢true (sym is ∙ told))
+as-wanted false true result is told = absurd (false≢true (sym is ∙ told))
+
+pub as-unwanted : (so wanted result : Bool) → result ≡ cond wanted so (not so) → result ≡ false → so ≡ not wanted
+as-unwanted true false result is told = refl
+as-unwanted false true result is told = refl
+as-unwanted true true result is told = absurd (false≢true (sym told ∙ is))
+as-unwanted false false result is told = absurd (false≢true (sym told ∙ is))
+
+-- up to the end of what stays
+pub minutes-more : (gap : List Bool → Bool) (rows : List (List Bool)) (from minute end : ℕ) (b : Bool) → ((k : ℕ) → from ≤ k → k < minute → gap (row_at rows k) ≡ b)
+    → gap (row_at rows minute) ≡ b → Stays rows minute end → (k : ℕ) → from ≤ k → k < end → gap (row_at rows k) ≡ b
+minutes-more gap rows from minute end b before here stays k low high = either (cases_lt k minute)
+  where
+    either : (k < minute) ⊎ (minute ≤ k) → gap (row_at rows k) ≡ b
+    either (inl less) = before k low less
+    either (inr more) = ap gap (stays.same k more high) ∙ here
 
 -- ---- which periods hold
 
@@ -170,6 +208,19 @@ at-object c o object minute here within =
     (λ i period. row-is c minute period within i)
     ∙ sym (ap (λ (found : Option Object). option_map_or (λ one. (can_notify one && is_told c o one) && is_gap c (holds_at c minute) o one) found false) here)
 
+-- the first span of the object of that number
+pub first-at-object : (c : Config) (n id : ℕ) (object : Object) (objects : List Object) (rows : List (List Bool)) (asked : Bool) (span : Option Span) → id ≡ n → objects ≡ c.objects
+    → n < length c.objects → object ≡ get_or objects n object → rows ≡ rows_of (weekly c) → asked ≡ (can_notify object && is_told c id object)
+    → IsFirst (λ minute. asked && is_gap c (flag (row_at rows minute)) id object) span → IsFirst (lacks_hours c n) span
+first-at-object c n id object objects rows asked span id_is objects_are within is rows_are asked_is first =
+    let here : slice_get c.objects n ≡ Some object = slice_get_read c.objects n object within (is ∙ ap (λ (xs : List Object). get_or xs n object) objects_are) in
+    first-same (λ minute. asked && is_gap c (flag (row_at rows minute)) id object) (lacks_hours c n)
+    (λ minute in_week.
+    ap (λ (b : Bool). b && is_gap c (flag (row_at rows minute)) id object) asked_is
+    ∙ ap (λ (all : List (List Bool)). (can_notify object && is_told c id object) && is_gap c (flag (row_at all minute)) id object) rows_are
+    ∙ ap (λ (k : ℕ). (can_notify object && is_told c k object) && is_gap c (flag (row_at (rows_of (weekly c)) minute)) k object) id_is
+    ∙ at-object c n object minute here in_week) span first
+
 -- one span more
 pub spans-more : (c : Config) (n : ℕ) (old new : List (Option Span)) (span : Option Span) → length old ≡ n
     → ((o : ℕ) → o < n → IsFirst (lacks_hours c o) (get_or old o None)) → new ≡ old ++ span ∷ [] → IsFirst (lacks_hours c n) span
@@ -184,3 +235,10 @@ spans-more c n old new span long before more is o within =
         let at : o ≡ length old = omega (arith, same, long) in
         subst (λ (found : Option Span). IsFirst (lacks_hours c o) found) (sym (ap (λ (k : ℕ). get_or (old ++ span ∷ []) k None) at ∙ get_or-append_seam old span [] None))
         (subst (λ (k : ℕ). IsFirst (lacks_hours c k) span) (sym same) is)
+
+-- ---- the days of a period
+
+pub seven : {X : Type 0} (days : List X) (x0 x1 x2 x3 x4 x5 x6 : X) → length days ≡ 7 → x0 ≡ get_or days 0 x0 → x1 ≡ get_or days 1 x1 → x2 ≡ get_or days 2 x2 → x3 ≡ get_or days 3 x3
+    → x4 ≡ get_or days 4 x4 → x5 ≡ get_or days 5 x5 → x6 ≡ get_or days 6 x6 → x0 ∷ x1 ∷ x2 ∷ x3 ∷ x4 ∷ x5 ∷ x6 ∷ [] ≡ days
+seven (d0 ∷ d1 ∷ d2 ∷ d3 ∷ d4 ∷ d5 ∷ d6 ∷ []) x0 x1 x2 x3 x4 x5 x6 long e0 e1 e2 e3 e4 e5 e6 = λ i. e0 i ∷ e1 i ∷ e2 i ∷ e3 i ∷ e4 i ∷ e5 i ∷ e6 i ∷ []
+seven days x0 x1 x2 x3 x4 x5 x6 long e0 e1 e2 e3 e4 e5 e6 = absurd (omega (arith, long))

@@ -1,6 +1,6 @@
 //! Objects of which nobody is told at some time of a week (chapters "Notifications" and "Time Periods").
 
-ghost use Rattle.std.specs.Prelude.{◌≡◌, ℕ, ◌<◌, ◌≤◌, ◌&&◌, not, length, IfOk};
+ghost use Rattle.std.specs.Prelude.{◌≡◌, ℕ, ◌<◌, ◌≤◌, ◌&&◌, not, length, if◌then◌else◌, IfOk};
 ghost use Rattle.std.specs.List.{list_any};
 ghost use Rattle.due_model.specs.Accepted.{IsAccepted};
 ghost use Rattle.object_warnings.specs.Hours.{AreFirst, IsFirst, flag, has_hours, has_hours_by};
@@ -89,7 +89,14 @@ fn is_gap(config: &Config, flags: &[bool], number: ObjectId, object: &Object) ->
     flag(flags, object.period) && !is_covered(config, flags, number, object)
 }
 
-/// The first minute from one on at which it is so, or isn't, as it is wanted; a week, where there is none.
+/// Whether it is so, or isn't, as it is wanted.
+fn is_as_wanted(so: bool, wanted: bool) -> bool
+    ensures { result ≡ (if wanted then so else not so) }
+{
+    if wanted { so } else { !so }
+}
+
+/// The first minute from one on at which there is a gap, or none, as it is wanted; a week, where there is no such minute.
 fn first_from(
     config: &Config,
     all: &Week,
@@ -108,7 +115,8 @@ fn first_from(
 {
     let mut minute = from;
     while minute < WEEK {
-        if is_gap(config, all.row(minute), number, object) == wanted {
+        let gap = is_gap(config, all.row(minute), number, object);
+        if is_as_wanted(gap, wanted) {
             return minute;
         }
         minute = all.until(minute);
@@ -131,19 +139,32 @@ fn first_gap(config: &Config, all: &Week, number: ObjectId, object: &Object) -> 
     })
 }
 
-/// The same of an object that can notify and tells somebody; else none.
-fn first_of(config: &Config, all: &Week, number: ObjectId, object: &Object) -> Option<Span>
-    ensures { IsFirst (λ minute. (can_notify object.now && is_told config.now number.0 object.now)
+/// The same where it is asked for; else none.
+fn first_if(
+    config: &Config,
+    all: &Week,
+    number: ObjectId,
+    object: &Object,
+    asked: bool,
+) -> Option<Span>
+    ensures { IsFirst (λ minute. asked
         && is_gap config.now (flag (row_at all.now minute)) number.0 object.now) result }
 {
-    if can_notify(object) && is_told(config, number, object) {
+    if asked {
         first_gap(config, all, number, object)
     } else {
         None
     }
 }
 
-/// The same of the object of that number.
+/// Whether an object can notify and tells somebody.
+fn tells_somebody(config: &Config, number: ObjectId, object: &Object) -> bool
+    ensures { result ≡ (can_notify object.now && is_told config.now number.0 object.now) }
+{
+    can_notify(object) && is_told(config, number, object)
+}
+
+/// The first span of the object of that number, if it can notify and tells somebody.
 fn first_at(config: &Config, all: &Week, number: usize) -> Option<Span>
     requires accepted { IsAccepted config.now }
     requires week { all.now ≡ rows_of (weekly config.now) }
@@ -151,7 +172,9 @@ fn first_at(config: &Config, all: &Week, number: usize) -> Option<Span>
     ensures { IsFirst (lacks_hours config.now number) result }
 {
     let object = &config.objects.as_slice()[number];
-    first_of(config, all, object_id(number), object)
+    let id = object_id(number);
+    let asked = tells_somebody(config, id, object);
+    first_if(config, all, id, object, asked)
 }
 
 /// Of each object that can notify and tells somebody the first span of a week, holidays apart, in which its period holds and

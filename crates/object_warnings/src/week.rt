@@ -1,6 +1,6 @@
 //! Which periods hold at each minute of a week, holidays apart (chapter "Time Periods").
 
-ghost use Rattle.std.specs.Prelude.{◌≡◌, ◌+◌, ◌<◌, ◌≤◌, length, map, true, IfOk, Some};
+ghost use Rattle.std.specs.Prelude.{◌≡◌, ◌+◌, ◌<◌, ◌≤◌, length, map, true, All, IfOk, Some};
 ghost use Rattle.due_model.specs.Accepted.{IsAccepted};
 ghost use Rattle.due_model.specs.declared.config.Config.{Config};
 ghost use Rattle.due_model.specs.declared.zone.Zone.TheVariants.{Utc};
@@ -50,6 +50,7 @@ fn numbers_of(alloc: Global, numbers: &Sequence<PeriodId>) -> Result<Sequence<Pe
 
 /// A copy of a period without its dated lines.
 fn plain(alloc: Global, period: &Period) -> Result<Period, AllocError>
+    requires { length period.now.days ≡ 7 }
     ensures { IfOk result (λ copy. copy ≡ plain period.now) }
 {
     Ok(Period {
@@ -70,6 +71,7 @@ fn plain(alloc: Global, period: &Period) -> Result<Period, AllocError>
 
 /// Copies of periods without their dated lines.
 fn plain_periods(alloc: Global, periods: &[Period]) -> Result<Vec<Period>, AllocError>
+    requires { All (λ period. length period.days ≡ 7) periods.now }
     ensures { IfOk result (λ copies. copies.items ≡ map plain periods.now) }
 {
     let mut copies = Vec::with_capacity(alloc, periods.len())?;
@@ -81,6 +83,7 @@ fn plain_periods(alloc: Global, periods: &[Period]) -> Result<Vec<Period>, Alloc
 
 /// The periods of a configuration without their dated lines, and nothing else.
 pub(crate) fn weekly(alloc: Global, config: &Config) -> Result<Config, AllocError>
+    requires { IsAccepted config.now }
     ensures { IfOk result (λ made. made ≡ weekly config.now) }
 {
     Ok(Config {
@@ -145,6 +148,16 @@ fn are_same(one: &[bool], other: &[bool]) -> bool
     one == other
 }
 
+/// Whether a minute and the next have the same flags.
+fn goes_on(rows: &[Vec<bool>], minute: usize, next: usize) -> bool
+    requires minute { minute < length rows.now }
+    requires next { next < length rows.now }
+    ensures { result ≡ true → row_at (map (λ row. row.items) rows.now) minute
+        ≡ row_at (map (λ row. row.items) rows.now) next }
+{
+    are_same(rows[minute].as_slice(), rows[next].as_slice())
+}
+
 /// The end up to which the flags of a minute stay, where the ends of later ones are known.
 fn end_of(rows: &[Vec<bool>], ends: &[u16], minute: usize) -> u16
     requires long { length rows.now ≡ week }
@@ -153,11 +166,13 @@ fn end_of(rows: &[Vec<bool>], ends: &[u16], minute: usize) -> u16
     ensures { Stays (map (λ row. row.items) rows.now) minute result }
 {
     let next = minute + 1;
-    if next < WEEK && are_same(rows[minute].as_slice(), rows[next].as_slice()) {
-        ends[next]
-    } else {
-        next as u16
+    if next >= WEEK {
+        return next as u16;
     }
+    if goes_on(rows, minute, next) {
+        return ends[next];
+    }
+    next as u16
 }
 
 /// So many ends.
