@@ -5,7 +5,7 @@ use Rattle.std.specs.List.{list_any, range_with_len}
 use Rattle.std.specs.Option.{option_map_or}
 use Rattle.std.proofs.lemmas.Bool.{cases_eq, cases_lt, eqb-false, false≢true}
 use Rattle.std.proofs.Math.Seq.{get_or-append_seam}
-use Rattle.std.proofs.lemmas.List.{get_or-map, get_or_append_left, get_or_default, length-set, map-append}
+use Rattle.std.proofs.lemmas.List.{get_or-map, get_or_append_left, length-set, map-append}
 use Rattle.std.proofs.lemmas.List.FromFn.{get_or-map-range_with_len, length-map-range_with_len, map-range_with_len_more}
 use Rattle.lemmas.proofs.Lists.{slice_get_read}
 use Rattle.lemmas.proofs.Writes.{at_set}
@@ -67,12 +67,10 @@ stays-on rows minute end same stays = record {
     either k low high (inr other) = stays.same k (omega (arith, low, other)) high ∙ sym same
 
 -- the next minute has an end, and the same flags
-pub stays-next : (rows : List (List Bool)) (ends : List ℕ) (minute end : ℕ) → AreEnds rows (minute + 1) ends → minute + 1 < week → end ≡ get_or ends (minute + 1) end
+pub stays-next : (rows : List (List Bool)) (ends : List ℕ) (minute end : ℕ) → AreEnds rows (minute + 1) ends → minute + 1 < week → end ≡ get_or ends (minute + 1) 0
     → row_at rows minute ≡ row_at rows (minute + 1) → Stays rows minute end
 stays-next rows ends minute end are within is same =
-    stays-on rows minute end same
-    (subst (Stays rows (minute + 1)) (sym (is ∙ get_or_default ends (minute + 1) end 0 (let long = are.as_many in omega (arith, long, within))))
-    (are.each (minute + 1) (omega arith) within))
+    stays-on rows minute end same (subst (Stays rows (minute + 1)) (sym is) (are.each (minute + 1) (omega arith) within))
 
 -- two rows with the same flags
 pub rows-same : {C : Type 0} (items : C → List Bool) (rows : List C) (i j : ℕ) (x y : C) (one other : List Bool) → i < length rows → j < length rows → x ≡ get_or rows i x → y ≡ get_or rows j y

@@ -1,6 +1,6 @@
 //! Which periods hold at each minute of a week, holidays apart (chapter "Time Periods").
 
-ghost use Rattle.std.specs.Prelude.{◌≡◌, ◌+◌, ◌<◌, ◌≤◌, length, map, true, All, IfOk, Some};
+ghost use Rattle.std.specs.Prelude.{◌≡◌, ◌+◌, ◌<◌, ◌≤◌, length, map, slice_index_or, true, All, IfOk, Some};
 ghost use Rattle.due_model.specs.Accepted.{IsAccepted};
 ghost use Rattle.due_model.specs.declared.config.Config.{Config};
 ghost use Rattle.due_model.specs.declared.zone.Zone.TheVariants.{Utc};
@@ -158,6 +158,14 @@ fn goes_on(rows: &[Vec<bool>], minute: usize, next: usize) -> bool
     are_same(rows[minute].as_slice(), rows[next].as_slice())
 }
 
+/// The end of a minute.
+fn end_at(ends: &[u16], minute: usize) -> u16
+    requires { minute < length ends.now }
+    ensures { result ≡ slice_index_or ends.now minute 0 }
+{
+    ends[minute]
+}
+
 /// The end up to which the flags of a minute stay, where the ends of later ones are known.
 fn end_of(rows: &[Vec<bool>], ends: &[u16], minute: usize) -> u16
     requires long { length rows.now ≡ week }
@@ -170,7 +178,7 @@ fn end_of(rows: &[Vec<bool>], ends: &[u16], minute: usize) -> u16
         return next as u16;
     }
     if goes_on(rows, minute, next) {
-        return ends[next];
+        return end_at(ends, next);
     }
     next as u16
 }

@@ -7,7 +7,7 @@ returns-then-next-ge-WEEK c = stays-alone (map (λ row. row.items) c.args.rows.n
 
 pub returns-then-goes_on : goal.returns-then-goes_on
 returns-then-goes_on c =
-    stays-next (map (λ row. row.items) c.args.rows.now) c.args.ends.now c.args.minute c.index-ends-next.result c.requires.ends (omega (arith, c.if-next-ge-WEEK.false)) c.index-ends-next.is
+    stays-next (map (λ row. row.items) c.args.rows.now) c.args.ends.now c.args.minute c.end_at.result c.requires.ends (omega (arith, c.if-next-ge-WEEK.false)) c.end_at.ensures
     (c.if-goes_on.ensures c.if-goes_on.true)
 
 pub returns : goal.returns

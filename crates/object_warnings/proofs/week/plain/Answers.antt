@@ -1,5 +1,4 @@
-use Rattle.std.proofs.Common.{ap, get_or, List, ◌∙◌}
-use Rattle.due_model.specs.declared.config.Range.{Range}
+use Rattle.std.proofs.Common.{◌∷◌, [], ◌∙◌}
 use Rattle.object_warnings.proofs.HourLemmas.{seven}
 use Rattle.object_warnings.proofs.week.plain.Goals as goal
 
