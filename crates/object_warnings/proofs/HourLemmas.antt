@@ -1,6 +1,6 @@
 -- Minutes of a week, one by one.
-use Rattle.std.proofs.Common.{◌≡◌, ℕ, zero, suc, ◌+◌, ◌<◌, ◌≤◌, ◌⊎◌, Bool, true, false, not, cond, ◌&&◌, List, [], ◌∷◌, ◌++◌, length, map, set, get_or, Option, Some, None, refl, sym, ap, ap₂, subst, eqb, eqb-true, inl, inr, ◌∙◌, arith}
-use Rattle.std.specs.Prelude.{◌||◌, ◌==◌, IfNone, IfSome, slice_get}
+use Rattle.std.proofs.Common.{◌≡◌, ℕ, zero, suc, ◌+◌, ◌<◌, ◌≤◌, ◌⊎◌, Bool, true, false, not, cond, ◌&&◌, List, [], ◌∷◌, ◌++◌, length, map, set, get_or, Option, Some, None, refl, sym, ap, subst, eqb, eqb-true, inl, inr, ◌∙◌, arith}
+use Rattle.std.specs.Prelude.{slice_get}
 use Rattle.std.specs.List.{list_any, range_with_len}
 use Rattle.std.specs.Option.{option_map_or}
 use Rattle.std.proofs.lemmas.Bool.{cases_eq, cases_lt, eqb-false, false≢true}
@@ -236,7 +236,7 @@ spans-more c n old new span long before more is o within =
 
 -- ---- the days of a period
 
-pub seven : {X : Type 0} (days : List X) (x0 x1 x2 x3 x4 x5 x6 : X) → length days ≡ 7 → x0 ≡ get_or days 0 x0 → x1 ≡ get_or days 1 x1 → x2 ≡ get_or days 2 x2 → x3 ≡ get_or days 3 x3
-    → x4 ≡ get_or days 4 x4 → x5 ≡ get_or days 5 x5 → x6 ≡ get_or days 6 x6 → x0 ∷ x1 ∷ x2 ∷ x3 ∷ x4 ∷ x5 ∷ x6 ∷ [] ≡ days
-seven (d0 ∷ d1 ∷ d2 ∷ d3 ∷ d4 ∷ d5 ∷ d6 ∷ []) x0 x1 x2 x3 x4 x5 x6 long e0 e1 e2 e3 e4 e5 e6 = λ i. e0 i ∷ e1 i ∷ e2 i ∷ e3 i ∷ e4 i ∷ e5 i ∷ e6 i ∷ []
-seven days x0 x1 x2 x3 x4 x5 x6 long e0 e1 e2 e3 e4 e5 e6 = absurd (omega (arith, long))
+pub seven : {X : Type 0} (days : List X) (d x0 x1 x2 x3 x4 x5 x6 : X) → length days ≡ 7 → x0 ≡ get_or days 0 d → x1 ≡ get_or days 1 d → x2 ≡ get_or days 2 d → x3 ≡ get_or days 3 d
+    → x4 ≡ get_or days 4 d → x5 ≡ get_or days 5 d → x6 ≡ get_or days 6 d → x0 ∷ x1 ∷ x2 ∷ x3 ∷ x4 ∷ x5 ∷ x6 ∷ [] ≡ days
+seven (d0 ∷ d1 ∷ d2 ∷ d3 ∷ d4 ∷ d5 ∷ d6 ∷ []) d x0 x1 x2 x3 x4 x5 x6 long e0 e1 e2 e3 e4 e5 e6 = λ i. e0 i ∷ e1 i ∷ e2 i ∷ e3 i ∷ e4 i ∷ e5 i ∷ e6 i ∷ []
+seven days d x0 x1 x2 x3 x4 x5 x6 long e0 e1 e2 e3 e4 e5 e6 = absurd (omega (arith, long))

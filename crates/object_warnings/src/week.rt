@@ -1,6 +1,6 @@
 //! Which periods hold at each minute of a week, holidays apart (chapter "Time Periods").
 
-ghost use Rattle.std.specs.Prelude.{◌≡◌, ◌+◌, ◌<◌, ◌≤◌, length, map, slice_index_or, true, All, IfOk, Some};
+ghost use Rattle.std.specs.Prelude.{◌≡◌, ◌+◌, ◌<◌, ◌≤◌, [], length, map, slice_index_or, true, All, IfOk, Some};
 ghost use Rattle.due_model.specs.Accepted.{IsAccepted};
 ghost use Rattle.due_model.specs.declared.config.Config.{Config};
 ghost use Rattle.due_model.specs.declared.zone.Zone.TheVariants.{Utc};
@@ -41,6 +41,18 @@ fn ranges_of(alloc: Global, ranges: &Sequence<Range>) -> Result<Sequence<Range>,
     Ok(Sequence::new(Vec::from_slice(alloc, ranges.as_slice())?))
 }
 
+/// A copy of the ranges of a weekday.
+fn day_at(
+    alloc: Global,
+    days: &[Sequence<Range>],
+    weekday: usize,
+) -> Result<Sequence<Range>, AllocError>
+    requires { weekday < length days.now }
+    ensures { IfOk result (λ copy. copy ≡ slice_index_or days.now weekday []) }
+{
+    ranges_of(alloc, &days[weekday])
+}
+
 /// A copy of the numbers of periods.
 fn numbers_of(alloc: Global, numbers: &Sequence<PeriodId>) -> Result<Sequence<PeriodId>, AllocError>
     ensures { IfOk result (λ copy. copy ≡ numbers.now) }
@@ -56,13 +68,13 @@ fn plain(alloc: Global, period: &Period) -> Result<Period, AllocError>
     Ok(Period {
         name: ShortList::new(alloc, period.name.as_slice())?,
         days: [
-            ranges_of(alloc, &period.days[0])?,
-            ranges_of(alloc, &period.days[1])?,
-            ranges_of(alloc, &period.days[2])?,
-            ranges_of(alloc, &period.days[3])?,
-            ranges_of(alloc, &period.days[4])?,
-            ranges_of(alloc, &period.days[5])?,
-            ranges_of(alloc, &period.days[6])?,
+            day_at(alloc, &period.days, 0)?,
+            day_at(alloc, &period.days, 1)?,
+            day_at(alloc, &period.days, 2)?,
+            day_at(alloc, &period.days, 3)?,
+            day_at(alloc, &period.days, 4)?,
+            day_at(alloc, &period.days, 5)?,
+            day_at(alloc, &period.days, 6)?,
         ],
         dated: Sequence::new(Vec::new(alloc)),
         excludes: numbers_of(alloc, &period.excludes)?,
