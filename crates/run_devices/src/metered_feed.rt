@@ -17,7 +17,9 @@ const CLOCK: &[u8] = b" CLOCK";
 enum Place {
     /// It is the first.
     Begin,
-    /// It is in the stamp.
+    /// It is the stamp's first.
+    Open,
+    /// It is in the stamp, or after it.
     Stamp,
     /// So many bytes of what stands after the stamp of a clock's line came before.
     Word(u8),
@@ -30,6 +32,13 @@ fn after(place: Place, byte: u8) -> Place {
     match place {
         Place::Begin => {
             if byte == b'[' {
+                Place::Open
+            } else {
+                Place::Other
+            }
+        }
+        Place::Open => {
+            if byte.is_ascii_digit() {
                 Place::Stamp
             } else {
                 Place::Other
