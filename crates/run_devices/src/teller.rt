@@ -277,10 +277,10 @@ impl LaneTeller {
         if let Some(metrics) = &self.teller.metrics {
             metrics.meters.take(self.lane);
         }
-        if let Some(log) = &self.teller.log {
-            self.teller
-                .say_log(log.write_taken(self.name.as_str(), letter));
-        }
+        self.teller.log_line(&OutputLine::Taken {
+            lane: self.lane,
+            notice: letter.notice,
+        });
     }
 
     /// A try of a letter has failed: where it was the device that did, that is counted.
