@@ -231,8 +231,8 @@ fn finish_logs(logs: Vec<DeciderLines>) {
     }
 }
 
-/// The log in the file at a path.
-fn opened_log(
+/// The log in the file at a path. Where it can't be opened that is said on standard error.
+pub fn opened_log(
     rt: &HostRuntime,
     config: Arc<Config, Global>,
     path: &str,
