@@ -10,5 +10,5 @@ pub mod resumed;
 pub mod settings;
 
 pub use fault::ResumeFault;
-pub use resumed::{do_logged_resumed_run, do_resumed_run};
+pub use resumed::{Resumed, do_logged_resumed_run, do_resumed_run};
 pub use settings::{ResumedSettings, ResumedWords, StateSettings};
