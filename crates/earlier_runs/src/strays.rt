@@ -62,7 +62,9 @@ fn is_stray(alloc: Global, config: &Config, name: &[u8]) -> Result<bool, AllocEr
 /// Whether a journal's name ends so: with a point and the number of a channel.
 fn is_journal_name(name: &[u8]) -> bool {
     match name.split_last() {
-        Some((digit, front)) => b'0' <= *digit && *digit < b'0' + MOST && front.last() == Some(&b'.'),
+        Some((digit, front)) => b'0' <= *digit
+            && *digit < b'0' + MOST
+            && front.last() == Some(&b'.'),
         None => false,
     }
 }

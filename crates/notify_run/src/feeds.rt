@@ -134,16 +134,7 @@ fn status_of_resumed<T: Threads + Wait + Clock + Sync>(
         Some(file) => {
             let fold = log.fold;
             let log = LogPlace { file, fold };
-            do_logged_resumed_run(
-                rt,
-                threads,
-                zone,
-                words,
-                settings,
-                log,
-                feed,
-                &mut writer,
-            )
+            do_logged_resumed_run(rt, threads, zone, words, settings, log, feed, &mut writer)
         }
         None => do_resumed_run(rt, threads, zone, words, settings, feed, &mut writer),
     };

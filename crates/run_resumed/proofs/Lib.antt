@@ -1,2 +1,3 @@
 pub mod HandedLaws
 mod PostLaws
+mod TiedLaws

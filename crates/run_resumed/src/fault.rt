@@ -97,7 +97,8 @@ impl<T: Drop> From<AllocFailed<T>> for ResumeFault<'_> {
 }
 
 /// What can be done.
-const WAYS: &str = "state: the feed or the object files have changed: run with those that were, or give up what is due so far by --from-now";
+const WAYS: &str =
+    "state: the feed or the object files have changed: run with those that were, or give up what is due so far by --from-now";
 
 /// Says on standard error that the feed can't be read again, so that nothing can be compared.
 pub(crate) fn say_unread<R: Eprint>(rt: &R, feed: &str) {
@@ -197,7 +198,7 @@ fn line_at(rt: &HostRuntime, path: &str, wanted: u64) -> Result<Option<String>, 
 
 /// A line as text, where it is UTF-8 of printable letters.
 fn shown(alloc: Global, line: &[u8]) -> Result<Option<String>, AllocError> {
-    let is_printable = line.iter().all(|byte| 32 <= *byte && *byte != 127);
+    let is_printable = !line.is_empty() && line.iter().all(|byte| 32 <= *byte && *byte != 127);
     match std::str::from_utf8(line) {
         Ok(text) if is_printable => Ok(Some(String::from_str(alloc, text)?)),
         _ => Ok(None),

@@ -1,6 +1,6 @@
 //! What a run that goes on begins with: the words are looked at, the journals read, what is due compared with them, and the channels opened.
 
-ghost use Rattle.std.specs.Prelude.{◌≡◌, ◌≤◌, [], length, map, unwrap_or, IfErr, IfOk, List, OnOk};
+ghost use Rattle.std.specs.Prelude.{◌≡◌, ◌≤◌, [], length, map, unwrap_or, All, IfErr, IfOk, OnOk};
 ghost use Rattle.std.specs.Arc.{arc_value};
 ghost use Rattle.std.specs.Option.{option_map};
 ghost use Rattle.due_feed.specs.Seen.{due_of, past_of};
@@ -77,6 +77,7 @@ pub(crate) fn ready_run<'m, 'a>(
         in IfOk result (λ ready. AreOpened texts (arc_value ready.config) ready.lanes.items
         (map opened (numbered_from 0 ready.opened.items))) }
     ensures each { IfOk result (λ ready. length ready.opened.items ≡ length ready.lanes.items) }
+    ensures unused { IfOk result (λ ready. All (λ channel. channel.kept.taken ≡ []) ready.opened.items) }
     ensures same { IfOk result (λ ready. (due : List Answer)
         × IsSame ready.kept.states.items (length (past_of due))
         (due_of (arc_value ready.config) zone.now (past_of due))) }
@@ -153,12 +154,7 @@ fn read_kept(
 }
 
 /// How many events a feed has as far as it goes now.
-fn count_events(
-    alloc: Global,
-    config: &Config,
-    zone: &Zone,
-    feed: File,
-) -> Result<u64, FolderFault>
+fn count_events(alloc: Global, config: &Config, zone: &Zone, feed: File) -> Result<u64, FolderFault>
     requires accepted { IsAccepted config.now }
 {
     match events_of(alloc, config, zone, AnyReader::new(feed)) {

@@ -70,13 +70,7 @@ pub fn do_resumed_run<'m, 'a, T: Threads + Wait + Clock + Sync, R: Input + Drop,
 
 /// The same of a run with a log: the lines of its report go there as they happen, and the ends of its lanes and the lines of its journals to
 /// the writer once the feed is over. The log has what this run did: of what earlier runs settled it has no line of a message.
-pub fn do_logged_resumed_run<
-    'm,
-    'a,
-    T: Threads + Wait + Clock + Sync,
-    R: Input + Drop,
-    W: Sink,
->(
+pub fn do_logged_resumed_run<'m, 'a, T: Threads + Wait + Clock + Sync, R: Input + Drop, W: Sink>(
     rt: &HostRuntime,
     threads: &T,
     zone: &Zone,
@@ -146,6 +140,7 @@ fn resume<'a, T: Threads + Wait + Clock + Sync, R: Input + Drop, W: Sink>(
     requires accepted { IsAccepted (arc_value ready.config) }
     requires each { length ready.opened.items ≡ length ready.lanes.items }
     requires few { (l : ℕ) → channels_for ready.lanes.items l ≤ 8 }
+    requires unused { All (λ channel. channel.kept.taken ≡ []) ready.opened.items }
     ensures report { IfOk result (λ done. ResumesWith ⟦<CountedChannel<OpenedChannel> as Channel>⟧.account
         ⟦<ResumedChannel as Channel>⟧.account ⟦<ResumedChannel as Channel>⟧.offered (λ cs. cs.items) (λ c. c.channel)
         R.can_fail (is_none settings.entry.run.ahead) (arc_value ready.config) zone.now settings.entry.run.settings.tries
@@ -169,15 +164,7 @@ fn resume<'a, T: Threads + Wait + Clock + Sync, R: Input + Drop, W: Sink>(
         opened,
     )?;
     watched.teller.say_unserved(&config, &lanes);
-    let (ending, channels) = run_posts(
-        watched,
-        &config,
-        zone,
-        settings.run,
-        posts,
-        feed,
-        writer,
-    )?;
+    let (ending, channels) = run_posts(watched, &config, zone, settings.run, posts, feed, writer)?;
     write_journal_lines(rt.alloc(), &config, &kept.states, &channels, writer)?;
     Ok(Resumed { ending, channels })
 }
@@ -196,6 +183,7 @@ fn log_on<'a, T: Threads + Wait + Clock + Sync, R: Input + Drop, W: Sink>(
     requires accepted { IsAccepted (arc_value ready.config) }
     requires each { length ready.opened.items ≡ length ready.lanes.items }
     requires few { (l : ℕ) → channels_for ready.lanes.items l ≤ 8 }
+    requires unused { All (λ channel. channel.kept.taken ≡ []) ready.opened.items }
     ensures report { IfOk result (λ done. LogsWith ⟦<CountedChannel<OpenedChannel> as Channel>⟧.account
         ⟦<ResumedChannel as Channel>⟧.account ⟦<ResumedChannel as Channel>⟧.offered (λ cs. cs.items) (λ c. c.channel)
         R.can_fail (is_none settings.entry.run.ahead) (arc_value ready.config) zone.now settings.entry.run.settings.tries
