@@ -9,10 +9,9 @@ use command_line::{FeedWords, LogWords};
 use command_output::AnyWriter;
 use due_model::zone::Zone;
 use feed_file::{Feed, FeedFile, FeedWays};
-use run_devices::{LogPlace, LoggedWords, RunSettings, do_logged_run, do_run};
+use run_devices::{LogPlace, LoggedWords, RunSettings, RunWords, do_logged_run, do_run};
 use run_resumed::{
-    ResumeFault, Resumed, ResumedSettings, ResumedWords, StateSettings, do_logged_resumed_run,
-    do_resumed_run,
+    ResumeFault, Resumed, ResumedSettings, StateSettings, do_logged_resumed_run, do_resumed_run,
 };
 use std::io::{self, Eprint};
 use std::process::ExitCode;
@@ -61,20 +60,36 @@ pub(crate) fn status_of_feed<T: Threads + Wait + Clock + Sync>(
                 from_now: feed.state.from_now,
             },
         };
-        let words = ResumedWords { objects, channels };
+        let words = RunWords {
+            objects,
+            channels,
+            metrics: log.metrics,
+        };
         return status_of_resumed(rt, threads, zone, words, settings, log, opened);
     }
-    match log.file {
+    let LogWords {
+        file,
+        fold,
+        metrics,
+    } = log;
+    match file {
         Some(file) => {
-            let fold = log.fold;
             let words = LoggedWords {
                 objects,
                 channels,
                 log: LogPlace { file, fold },
+                metrics,
             };
             status_of_logged(rt, threads, zone, words, settings, opened)
         }
-        None => status_of_new(rt, threads, zone, objects, settings, channels, opened),
+        None => {
+            let words = RunWords {
+                objects,
+                channels,
+                metrics,
+            };
+            status_of_new(rt, threads, zone, words, settings, opened)
+        }
     }
 }
 
@@ -98,23 +113,13 @@ fn status_of_new<T: Threads + Wait + Clock + Sync>(
     rt: &HostRuntime,
     threads: &T,
     zone: &Zone,
-    objects: &str,
+    words: RunWords<'_, '_>,
     settings: RunSettings,
-    channels: Option<&[&str]>,
     feed: Feed<Stdin>,
 ) -> ExitCode {
     let feed = AnyReader::new(feed);
     let mut writer = AnyWriter::new(rt.stdout());
-    let outcome = do_run(
-        rt,
-        threads,
-        zone,
-        objects,
-        settings,
-        channels,
-        feed,
-        &mut writer,
-    );
+    let outcome = do_run(rt, threads, zone, words, settings, feed, &mut writer);
     status_of_run(rt, outcome.map(|done| done.ending))
 }
 
@@ -123,7 +128,7 @@ fn status_of_resumed<T: Threads + Wait + Clock + Sync>(
     rt: &HostRuntime,
     threads: &T,
     zone: &Zone,
-    words: ResumedWords<'_, '_>,
+    words: RunWords<'_, '_>,
     settings: ResumedSettings<'_>,
     log: LogWords<'_>,
     feed: Feed<Stdin>,

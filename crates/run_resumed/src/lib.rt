@@ -11,4 +11,4 @@ pub mod settings;
 
 pub use fault::ResumeFault;
 pub use resumed::{Resumed, do_logged_resumed_run, do_resumed_run};
-pub use settings::{ResumedSettings, ResumedWords, StateSettings};
+pub use settings::{ResumedSettings, StateSettings};

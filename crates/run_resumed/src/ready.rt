@@ -12,16 +12,16 @@ ghost use Rattle.earlier_runs.specs.Compared.{IsSame};
 ghost use Rattle.run_resumed.specs.Fault.{IsNoChannelFault, ResumeFails};
 
 use crate::fault::{ResumeFault, say_change, say_unread, told};
-use crate::settings::{ResumedSettings, ResumedWords, StateSettings};
+use crate::settings::{ResumedSettings, StateSettings};
 use channel_words::read_words;
 use command_output::CommandFault;
 use due_model::config::{Config, LaneId};
 use due_model::zone::Zone;
 use earlier_runs::{LaneState, change_of, events_of, give_up_all, states_of, stray_journal};
 use journal_folder::{Folder, FolderFault};
-use run_devices::RunFault;
 use run_devices::channels::{OpenedChannel, open_channels};
 use run_devices::run::{checked, texts_of};
+use run_devices::{RunFault, RunWords};
 use std::alloc::{AllocError, Global};
 use std::fs::File;
 use std::sync::Arc;
@@ -69,7 +69,7 @@ pub(crate) struct Ready {
 pub(crate) fn ready_run<'m, 'a>(
     rt: &HostRuntime,
     zone: &Zone,
-    words: ResumedWords<'m, 'a>,
+    words: RunWords<'m, 'a>,
     settings: ResumedSettings<'_>,
 ) -> Result<Ready, ResumeFault<'a>>
     ensures right { let texts = map (λ text. text.now)

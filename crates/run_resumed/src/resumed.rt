@@ -13,7 +13,7 @@ use crate::fault::{ResumeFault, told};
 use crate::journal_lines::write_journal_lines;
 use crate::posts::{ResumedChannel, resumed_posts};
 use crate::ready::{Kept, KeptFault, Ready, ready_run};
-use crate::settings::{ResumedSettings, ResumedWords};
+use crate::settings::ResumedSettings;
 use channel::Channel;
 use command_output::{Ending, Sink};
 use due_model::config::{Config, LaneId};
@@ -23,7 +23,7 @@ use run_devices::channels::OpenedChannel;
 use run_devices::counted::CountedChannel;
 use run_devices::logged_run::{log_posts, opened_log};
 use run_devices::run::{posts_of, run_posts};
-use run_devices::{LogPlace, Watched};
+use run_devices::{LogPlace, RunWords, Watched, metrics_at};
 use std::alloc::Global;
 use std::sync::{Arc, Wait};
 use std::thread::Threads;
@@ -46,7 +46,7 @@ pub fn do_resumed_run<'m, 'a, T: Threads + Wait + Clock + Sync, R: Input + Drop,
     rt: &HostRuntime,
     threads: &T,
     zone: &Zone,
-    words: ResumedWords<'m, 'a>,
+    words: RunWords<'m, 'a>,
     settings: ResumedSettings<'_>,
     feed: R,
     writer: &mut W,
@@ -65,7 +65,10 @@ pub fn do_resumed_run<'m, 'a, T: Threads + Wait + Clock + Sync, R: Input + Drop,
         in IfErr result (ResumeFails texts) }
 {
     let ready = ready_run(rt, zone, words, settings)?;
-    resume(rt, threads, zone, settings, ready, feed, writer)
+    let deciders = settings.run.settings.deciders;
+    let metrics = metrics_at(rt, &ready.config, deciders, words.metrics)?;
+    let watched = Watched::new(rt, threads, settings.run.quiet, None, metrics)?;
+    resume(watched, zone, settings, ready, feed, writer)
 }
 
 /// The same of a run with a log: the lines of its report go there as they happen, and the ends of its lanes and the lines of its journals to
@@ -74,7 +77,7 @@ pub fn do_logged_resumed_run<'m, 'a, T: Threads + Wait + Clock + Sync, R: Input 
     rt: &HostRuntime,
     threads: &T,
     zone: &Zone,
-    words: ResumedWords<'m, 'a>,
+    words: RunWords<'m, 'a>,
     settings: ResumedSettings<'_>,
     log: LogPlace<'_>,
     feed: R,
@@ -91,7 +94,11 @@ pub fn do_logged_resumed_run<'m, 'a, T: Threads + Wait + Clock + Sync, R: Input 
         in IfErr result (ResumeFails texts) }
 {
     let ready = ready_run(rt, zone, words, settings)?;
-    log_on(rt, threads, zone, settings, log, ready, feed, writer)
+    let deciders = settings.run.settings.deciders;
+    let file = opened_log(rt, Arc::try_clone(&ready.config)?, log.file)?;
+    let metrics = metrics_at(rt, &ready.config, deciders, words.metrics)?;
+    let watched = Watched::new(rt, threads, settings.run.quiet, Some(file), metrics)?;
+    log_on(watched, zone, settings, log.fold, ready, feed, writer)
 }
 
 /// The posts of channels that were opened, one on each of these lanes in order, each over its journal. What is wrong with a journal is said on
@@ -129,8 +136,7 @@ fn posts_on<'a, T: Threads>(
 
 /// Reads the feed, with channels that were opened, each over its journal.
 fn resume<'a, T: Threads + Wait + Clock + Sync, R: Input + Drop, W: Sink>(
-    rt: &HostRuntime,
-    threads: &T,
+    watched: Watched<'_, T>,
     zone: &Zone,
     settings: ResumedSettings<'_>,
     ready: Ready,
@@ -154,7 +160,7 @@ fn resume<'a, T: Threads + Wait + Clock + Sync, R: Input + Drop, W: Sink>(
         opened,
         kept,
     } = ready;
-    let watched = Watched::new(rt, threads, settings.run.quiet, None)?;
+    let alloc = watched.rt.alloc();
     let posts = posts_on(
         &watched,
         settings.state.folder,
@@ -165,17 +171,16 @@ fn resume<'a, T: Threads + Wait + Clock + Sync, R: Input + Drop, W: Sink>(
     )?;
     watched.teller.say_unserved(&config, &lanes);
     let (ending, channels) = run_posts(watched, &config, zone, settings.run, posts, feed, writer)?;
-    write_journal_lines(rt.alloc(), &config, &kept.states, &channels, writer)?;
+    write_journal_lines(alloc, &config, &kept.states, &channels, writer)?;
     Ok(Resumed { ending, channels })
 }
 
 /// The same with a log.
 fn log_on<'a, T: Threads + Wait + Clock + Sync, R: Input + Drop, W: Sink>(
-    rt: &HostRuntime,
-    threads: &T,
+    watched: Watched<'_, T>,
     zone: &Zone,
     settings: ResumedSettings<'_>,
-    log: LogPlace<'_>,
+    fold: bool,
     ready: Ready,
     feed: R,
     writer: &mut W,
@@ -197,8 +202,7 @@ fn log_on<'a, T: Threads + Wait + Clock + Sync, R: Input + Drop, W: Sink>(
         opened,
         kept,
     } = ready;
-    let file = opened_log(rt, Arc::try_clone(&config)?, log.file)?;
-    let watched = Watched::new(rt, threads, settings.run.quiet, Some(file))?;
+    let alloc = watched.rt.alloc();
     let posts = posts_on(
         &watched,
         settings.state.folder,
@@ -213,11 +217,11 @@ fn log_on<'a, T: Threads + Wait + Clock + Sync, R: Input + Drop, W: Sink>(
         &config,
         zone,
         settings.run,
-        log.fold,
+        fold,
         posts,
         feed,
         writer,
     )?;
-    write_journal_lines(rt.alloc(), &config, &kept.states, &channels, writer)?;
+    write_journal_lines(alloc, &config, &kept.states, &channels, writer)?;
     Ok(Resumed { ending, channels })
 }

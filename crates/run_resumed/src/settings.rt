@@ -2,15 +2,6 @@
 
 use run_devices::RunSettings;
 
-/// Which files and channels a run that goes on is of.
-#[derive(Clone, Copy, Debug)]
-pub struct ResumedWords<'m, 'a> {
-    /// The file with the object text.
-    pub objects: &'m str,
-    /// The channel words.
-    pub channels: Option<&'m [&'a str]>,
-}
-
 /// Where a run keeps what it has handed over, and what it does with what is in doubt.
 #[derive(Clone, Copy, Debug)]
 pub struct StateSettings<'s> {
