@@ -1,4 +1,8 @@
-//! The runs of a feed: of standard input, and of a file.
+//! The runs of a feed: of standard input, of a file, and those that go on where earlier ones have ended.
+
+ghost use Rattle.std.specs.Prelude.{◌≡◌, IfErr};
+ghost use Rattle.std.specs.Process.{exit_status};
+ghost use Rattle.run_resumed.specs.Fault.{resume_status};
 
 use crate::status_of_run;
 use command_line::{FeedWords, LogWords};
@@ -6,7 +10,10 @@ use command_output::AnyWriter;
 use due_model::zone::Zone;
 use feed_file::{Feed, FeedFile, FeedWays};
 use run_devices::{LogPlace, LoggedWords, RunSettings, RunWords, do_logged_run, do_run};
-use std::io;
+use run_resumed::{
+    ResumeFault, Resumed, ResumedSettings, StateSettings, do_logged_resumed_run, do_resumed_run,
+};
+use std::io::{self, Eprint};
 use std::process::ExitCode;
 use std::rt::Stdin;
 use std::sync::Wait;
@@ -43,6 +50,23 @@ pub(crate) fn status_of_feed<T: Threads + Wait + Clock + Sync>(
         let _ = rt.eprintln(format_args!("feed: {path}: not opened"));
         return ExitCode::from(1);
     };
+    if let Some(folder) = feed.state.folder {
+        let settings = ResumedSettings {
+            run: settings,
+            state: StateSettings {
+                folder,
+                feed: feed.file.unwrap_or(""),
+                drops_doubt: feed.state.drops_doubt(),
+                from_now: feed.state.from_now,
+            },
+        };
+        let words = RunWords {
+            objects,
+            channels,
+            metrics: log.metrics,
+        };
+        return status_of_resumed(rt, threads, zone, words, settings, log, opened);
+    }
     let LogWords {
         file,
         fold,
@@ -97,4 +121,38 @@ fn status_of_new<T: Threads + Wait + Clock + Sync>(
     let mut writer = AnyWriter::new(rt.stdout());
     let outcome = do_run(rt, threads, zone, words, settings, feed, &mut writer);
     status_of_run(rt, outcome.map(|done| done.ending))
+}
+
+/// Does a run that goes on where earlier ones have ended, with a log or without, and gives its exit status.
+fn status_of_resumed<T: Threads + Wait + Clock + Sync>(
+    rt: &HostRuntime,
+    threads: &T,
+    zone: &Zone,
+    words: RunWords<'_, '_>,
+    settings: ResumedSettings<'_>,
+    log: LogWords<'_>,
+    feed: Feed<Stdin>,
+) -> ExitCode {
+    let feed = AnyReader::new(feed);
+    let mut writer = AnyWriter::new(rt.stdout());
+    let outcome = match log.file {
+        Some(file) => {
+            let fold = log.fold;
+            let log = LogPlace { file, fold };
+            do_logged_resumed_run(rt, threads, zone, words, settings, log, feed, &mut writer)
+        }
+        None => do_resumed_run(rt, threads, zone, words, settings, feed, &mut writer),
+    };
+    status_of_outcome(rt, outcome)
+}
+
+/// Says on standard error what a run that goes on failed with, if it did and that wasn't said, and gives its exit status.
+fn status_of_outcome<R: Eprint>(rt: &R, outcome: Result<Resumed, ResumeFault<'_>>) -> ExitCode
+    ensures { IfErr outcome (λ fault. exit_status result ≡ resume_status fault.entry) }
+{
+    match outcome {
+        Ok(done) => status_of_run(rt, Ok(done.ending)),
+        Err(ResumeFault::Run(fault)) => status_of_run(rt, Err(fault)),
+        Err(ResumeFault::State) => ExitCode::from(1),
+    }
 }
