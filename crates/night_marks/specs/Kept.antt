@@ -23,8 +23,11 @@ passes k o moment = not (is_out k.out o) && nat_le k.begin moment
 -- ---- too many
 
 -- all are of object o
-abbrev pub only_of : (o : ℕ) → List ObjectId → Bool
-only_of o objects = list_all (is_of o) objects
+abbrev pub only_marks : (o : ℕ) → List Entry → Bool
+only_marks o marks = list_all (λ mark. is_of o (mark_object mark)) marks
+
+abbrev pub only_changes : (o : ℕ) → List Change → Bool
+only_changes o changes = list_all (λ change. is_of o change.object) changes
 
 -- an object is left out
 abbrev pub left_out : Kept → (o : ℕ) → Kept
@@ -59,32 +62,34 @@ middle_mark marks = option_map_or mark_moment (slice_get marks (length marks / 2
 abbrev pub middle_change : List Change → ℕ
 middle_change changes = option_map_or (λ change. change.moment) (slice_get changes (length changes / 2)) 0
 
--- of too many marks: the least busy object that has some is left out
-abbrev pub least_marked : Kept → Entry → ObjectId
-least_marked k first =
-    least_of (activity k.marks k.changes) (mark_object first) (mark_objects k.marks)
+-- of too many marks the least busy object that has some is left out; this is one of those objects
+abbrev pub least_marked : Kept → ObjectId → ObjectId
+least_marked k first = least_of (activity k.marks k.changes) first (mark_objects k.marks)
+
+abbrev pub narrowed_marks_of : Kept → (first : ObjectId) → Kept
+narrowed_marks_of k first =
+    given_up k (least_marked k first).0 (only_marks (least_marked k first).0 k.marks)
+    (middle_mark k.marks)
 
 abbrev pub narrowed_marks : Kept → Kept
 narrowed_marks k =
-    option_map_or
-    (λ first. given_up k (least_marked k first).0
-    (only_of (least_marked k first).0 (mark_objects k.marks)) (middle_mark k.marks))
-    (slice_get k.marks 0) k
+    option_map_or (λ mark. narrowed_marks_of k (mark_object mark)) (slice_get k.marks 0) k
 
 abbrev pub settled_marks : Kept → Kept
 settled_marks k = if nat_lt most (length k.marks) then narrowed_marks k else k
 
 -- of too many changes
-abbrev pub least_changed : Kept → Change → ObjectId
-least_changed k first =
-    least_of (activity k.marks k.changes) first.object (change_objects k.changes)
+abbrev pub least_changed : Kept → ObjectId → ObjectId
+least_changed k first = least_of (activity k.marks k.changes) first (change_objects k.changes)
+
+abbrev pub narrowed_changes_of : Kept → (first : ObjectId) → Kept
+narrowed_changes_of k first =
+    given_up k (least_changed k first).0 (only_changes (least_changed k first).0 k.changes)
+    (middle_change k.changes)
 
 abbrev pub narrowed_changes : Kept → Kept
 narrowed_changes k =
-    option_map_or
-    (λ first. given_up k (least_changed k first).0
-    (only_of (least_changed k first).0 (change_objects k.changes)) (middle_change k.changes))
-    (slice_get k.changes 0) k
+    option_map_or (λ change. narrowed_changes_of k change.object) (slice_get k.changes 0) k
 
 abbrev pub settled_changes : Kept → Kept
 settled_changes k = if nat_lt most (length k.changes) then narrowed_changes k else k

@@ -172,9 +172,10 @@ impl Counts {
         ensures { OnOk result
             (objects.new.items ≡ objects.old.items ++ shown_at self.now number) }
     {
-        if self.is_shown(ObjectId(number as u16)) {
-            objects.push(number as u16)?;
+        if !self.is_shown(ObjectId(number as u16)) {
+            return Ok(());
         }
+        objects.push(number as u16)?;
         Ok(())
     }
 
@@ -215,7 +216,6 @@ pub(crate) fn activity(
 
 /// The numbers of the objects that are shown of these marks and changes: the busiest, at most 200. A refused growth is the only
 /// error.
-#[tactic(auto, unfolding(crate::specs::Counts::shown_objects))]
 pub fn shown_objects(
     alloc: Global,
     marks: &[Entry],

@@ -1,10 +1,10 @@
 //! The marks and the changes that are kept: of all objects, or of the busiest, or from some moment on.
 
 ghost use Rattle.std.specs.Prelude.{◌≡◌, IfOk, OnOk};
-ghost use Rattle.night_marks.specs.Counts.{change_objects, mark_objects};
 ghost use Rattle.night_marks.specs.Kept.{after_moment, begun_at, given_up, kept_change, kept_mark, left_out};
-ghost use Rattle.night_marks.specs.Kept.{middle_change, middle_mark, narrowed_changes, narrowed_marks, nothing_kept};
-ghost use Rattle.night_marks.specs.Kept.{only_of, passes, settled_changes, settled_marks};
+ghost use Rattle.night_marks.specs.Kept.{middle_change, middle_mark, narrowed_changes, narrowed_changes_of, narrowed_marks};
+ghost use Rattle.night_marks.specs.Kept.{narrowed_marks_of, nothing_kept, only_changes, only_marks, passes};
+ghost use Rattle.night_marks.specs.Kept.{settled_changes, settled_marks};
 
 use crate::conditions::Change;
 use crate::counts::activity;
@@ -40,14 +40,14 @@ fn after_moment(moment: u64) -> u64
 
 /// Whether all marks are of one object.
 fn only_marks_of(object: ObjectId, marks: &[Entry]) -> bool
-    ensures { result ≡ only_of object.0 (mark_objects marks.now) }
+    ensures { result ≡ only_marks object.0 marks.now }
 {
     marks.iter().all(|mark| is_of(object, mark_object(mark)))
 }
 
 /// Whether all changes are.
 fn only_changes_of(object: ObjectId, changes: &[Change]) -> bool
-    ensures { result ≡ only_of object.0 (change_objects changes.now) }
+    ensures { result ≡ only_changes object.0 changes.now }
 {
     changes.iter().all(|change| is_of(object, change.object))
 }
@@ -121,18 +121,39 @@ impl Kept {
         }
     }
 
+    /// Keeps fewer marks: this is the object of one of them.
+    fn narrow_marks_of(&mut self, alloc: Global, first: ObjectId) -> Result<(), AllocError>
+        ensures { OnOk result (self.new ≡ narrowed_marks_of self.old first) }
+    {
+        let marks = self.marks.as_slice();
+        let counts = activity(alloc, marks, self.changes.as_slice())?;
+        let least = counts.least_of_marks(first, marks);
+        let is_only = only_marks_of(least, marks);
+        let moment = middle_mark(marks);
+        self.give_up(least, is_only, moment);
+        Ok(())
+    }
+
     /// Keeps fewer marks.
     fn narrow_marks(&mut self, alloc: Global) -> Result<(), AllocError>
         ensures { OnOk result (self.new ≡ narrowed_marks self.old) }
     {
-        let marks = self.marks.as_slice();
-        let Some(first) = marks.get(0) else {
-            return Ok(());
+        let first = match self.marks.as_slice().get(0) {
+            Some(first) => mark_object(first),
+            None => return Ok(()),
         };
-        let counts = activity(alloc, marks, self.changes.as_slice())?;
-        let least = counts.least_of_marks(mark_object(first), marks);
-        let is_only = only_marks_of(least, marks);
-        let moment = middle_mark(marks);
+        self.narrow_marks_of(alloc, first)
+    }
+
+    /// Keeps fewer changes: this is the object of one of them.
+    fn narrow_changes_of(&mut self, alloc: Global, first: ObjectId) -> Result<(), AllocError>
+        ensures { OnOk result (self.new ≡ narrowed_changes_of self.old first) }
+    {
+        let changes = self.changes.as_slice();
+        let counts = activity(alloc, self.marks.as_slice(), changes)?;
+        let least = counts.least_of_changes(first, changes);
+        let is_only = only_changes_of(least, changes);
+        let moment = middle_change(changes);
         self.give_up(least, is_only, moment);
         Ok(())
     }
@@ -141,16 +162,11 @@ impl Kept {
     fn narrow_changes(&mut self, alloc: Global) -> Result<(), AllocError>
         ensures { OnOk result (self.new ≡ narrowed_changes self.old) }
     {
-        let changes = self.changes.as_slice();
-        let Some(first) = changes.get(0) else {
-            return Ok(());
+        let first = match self.changes.as_slice().get(0) {
+            Some(first) => first.object,
+            None => return Ok(()),
         };
-        let counts = activity(alloc, self.marks.as_slice(), changes)?;
-        let least = counts.least_of_changes(first.object, changes);
-        let is_only = only_changes_of(least, changes);
-        let moment = middle_change(changes);
-        self.give_up(least, is_only, moment);
-        Ok(())
+        self.narrow_changes_of(alloc, first)
     }
 
     /// Keeps fewer marks, where there are too many.
