@@ -72,11 +72,7 @@ fn changed_depth(change: DowntimeChange, depth: u64) -> u64
 }
 
 /// The condition of an object after an event that says something of it.
-pub(crate) fn condition_after(
-    kind: EventKind,
-    object: ObjectId,
-    before: Condition,
-) -> Condition
+pub(crate) fn condition_after(kind: EventKind, object: ObjectId, before: Condition) -> Condition
     ensures { result ≡ condition_after kind object.0 before }
 {
     let depth = match kind {

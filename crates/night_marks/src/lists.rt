@@ -84,8 +84,7 @@ impl Marks {
     pub(crate) fn leave_out(&mut self, object: ObjectId)
         ensures { self.new ≡ marks_without object.0 self.old }
     {
-        self.marks
-            .retain(|mark| !is_of(object, mark_object(mark)));
+        self.marks.retain(|mark| !is_of(object, mark_object(mark)));
     }
 
     /// Leaves those before a moment out.

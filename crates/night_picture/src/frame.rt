@@ -7,7 +7,9 @@ ghost use Rattle.night_picture.specs.Frame.{period_text, period_words, state_key
 ghost use Rattle.night_picture.specs.Frame.{tick_words, ticks_text};
 
 use crate::rows::push_told_paint;
-use crate::shapes::{Place, push_bar, push_cut, push_decimal, push_round, push_size, push_text, push_words};
+use crate::shapes::{
+    Place, push_bar, push_cut, push_decimal, push_round, push_size, push_text, push_words,
+};
 use due_model::config::{Config, ContactId};
 use local_text::{push_iso, push_local};
 use night_marks::Span;
@@ -146,12 +148,7 @@ fn tick_moment(span: Span, k: u64) -> u64
 
 /// Adds a line of the time.
 #[tactic(auto, unfolding(crate::specs::Frame::tick_line))]
-fn push_tick_line(
-    text: &mut Vec<u8>,
-    rows: usize,
-    k: u64,
-    title: &[u8],
-) -> Result<(), AllocError>
+fn push_tick_line(text: &mut Vec<u8>, rows: usize, k: u64, title: &[u8]) -> Result<(), AllocError>
     requires { k < 7 }
     ensures { OnOk result (text.new.items ≡ text.old.items ++ tick_line rows k title.now) }
 {
@@ -285,7 +282,14 @@ fn push_contact_dot(
     push_told_paint(&mut paint, ContactId(k))?;
     let x = 247 + 160 * (u64::from(k) % 6);
     let front = b"<circle class=\"contact\" r=\"4\" cx=\"";
-    push_round(text, front, x, y + 18 * (u64::from(k) / 6) + 6, &paint, name)
+    push_round(
+        text,
+        front,
+        x,
+        y + 18 * (u64::from(k) / 6) + 6,
+        &paint,
+        name,
+    )
 }
 
 /// Adds its name.

@@ -118,13 +118,7 @@ fn push_downtime(
 
 /// Adds that there is an acknowledgement, or none.
 #[tactic(auto, unfolding(crate::specs::Rows::ack_band))]
-fn push_ack(
-    text: &mut Vec<u8>,
-    span: Span,
-    y: u64,
-    moment: u64,
-    is: bool,
-) -> Result<(), AllocError>
+fn push_ack(text: &mut Vec<u8>, span: Span, y: u64, moment: u64, is: bool) -> Result<(), AllocError>
     requires { y ≤ 4480 }
     ensures { OnOk result (text.new.items ≡ text.old.items ++ ack_band span y moment is) }
 {
@@ -193,12 +187,7 @@ fn push_ack_change(
 
 /// Adds what looks different after a change.
 #[tactic(auto, unfolding(crate::specs::Rows::change_text))]
-fn push_change(
-    text: &mut Vec<u8>,
-    span: Span,
-    y: u64,
-    change: &Change,
-) -> Result<(), AllocError>
+fn push_change(text: &mut Vec<u8>, span: Span, y: u64, change: &Change) -> Result<(), AllocError>
     requires { y ≤ 4480 }
     ensures { OnOk result (text.new.items ≡ text.old.items ++ change_text span y change.now) }
 {
@@ -328,12 +317,7 @@ fn push_ack_start(
 
 /// Adds what a row begins with.
 #[tactic(auto, unfolding(crate::specs::Rows::start_text))]
-fn push_start(
-    text: &mut Vec<u8>,
-    span: Span,
-    y: u64,
-    first: &Condition,
-) -> Result<(), AllocError>
+fn push_start(text: &mut Vec<u8>, span: Span, y: u64, first: &Condition) -> Result<(), AllocError>
     requires { y ≤ 4480 }
     ensures { OnOk result (text.new.items ≡ text.old.items ++ start_text span y first.now) }
 {
@@ -525,16 +509,7 @@ fn push_row_at(
         return Ok(());
     };
     let object = ObjectId(*object);
-    push_row(
-        alloc,
-        text,
-        config,
-        clock,
-        span,
-        y_at(place),
-        object,
-        drawn,
-    )
+    push_row(alloc, text, config, clock, span, y_at(place), object, drawn)
 }
 
 /// Adds the rows of the objects that are shown.

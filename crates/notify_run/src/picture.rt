@@ -1,7 +1,7 @@
 //! A report on standard output, and the picture of its feed in a file.
 
 use crate::pretty::has_colours;
-use crate::{picks_of, shown_lines, status_of};
+use crate::{out_of_memory, picks_of, shown_lines, status_of};
 use command_line::ShownWords;
 use command_output::{AnyWriter, CommandFault, Ending};
 use due_model::zone::Zone;
@@ -10,7 +10,7 @@ use report_picture::{Picture, draw_files, draw_in};
 use report_pretty::PrettyLines;
 use report_telling::Teller;
 use std::fs::{self, File};
-use std::io::{self, IsTerminal};
+use std::io::{self, ErrorKind, IsTerminal};
 use std::process::ExitCode;
 use text_lines::AnyReader;
 
@@ -89,8 +89,11 @@ impl Unfinished {
     }
 }
 
-/// Says on standard error why a picture isn't written, and gives the exit status: that of an output that failed.
+/// Says on standard error why a picture isn't written, and gives the exit status: that of an output that failed, or of want of memory.
 fn status_of_unwritten(rt: &HostRuntime, path: &str, fault: &io::Error) -> ExitCode {
+    if fault.kind() == ErrorKind::OutOfMemory {
+        return out_of_memory(rt);
+    }
     let _ = rt.eprintln(format_args!("picture: {path}: {fault}"));
     ExitCode::from(1)
 }

@@ -263,11 +263,7 @@ impl<'a, R: Input + Drop, T: Teller> Drawing<'a, R, T> {
     }
 
     /// Tells the end, writes all, and draws the picture.
-    fn finish<W: Sink>(
-        &mut self,
-        picture: &mut Picture,
-        writer: &mut W,
-    ) -> Result<(), CommandFault>
+    fn finish<W: Sink>(&mut self, picture: &mut Picture, writer: &mut W) -> Result<(), CommandFault>
         ensures ok { OnOk result (Leaves (W.contents writer.old) (W.contents writer.new)
             (self.old.text.items
             ++ T.ended self.old.teller self.old.config.now self.old.clock) []) }
@@ -278,16 +274,9 @@ impl<'a, R: Input + Drop, T: Teller> Drawing<'a, R, T> {
             ++ T.ended self.old.teller self.old.config.now self.old.clock) }
         ensures fault { IfErr result (λ fault. IsWriteFault W.can_fail fault) }
     {
-        self.teller
-            .end(self.config, &self.clock, &mut self.text)?;
+        self.teller.end(self.config, &self.clock, &mut self.text)?;
         write_all(&mut self.text, writer)?;
-        draw(
-            self.alloc,
-            picture,
-            self.config,
-            &self.clock,
-            &self.night,
-        )?;
+        draw(self.alloc, picture, self.config, &self.clock, &self.night)?;
         Ok(())
     }
 }

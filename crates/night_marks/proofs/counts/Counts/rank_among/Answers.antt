@@ -10,7 +10,7 @@ loop-number-preserved c =
     let n = c.loop-number.number in
     let fits : c.loop-number.busier + c.one_if.result ≤ n + 1 = omega (arith, c.loop-number.invariant.1, c.one_if.ensures.bound) in (
       ap (λ (k : ℕ). k + c.one_if.result) c.loop-number.invariant.0
-      ∙ ap (λ (k : ℕ). rank_among self o n + k) (c.one_if.ensures.value ∙ ap (λ (b : Bool). one_if b) c.is_less_busy.ensures)
-      ∙ sym (count_more (is_less_busy self o) n),
+          ∙ ap (λ (k : ℕ). rank_among self o n + k) (c.one_if.ensures.value ∙ ap (λ (b : Bool). one_if b) c.is_less_busy.ensures)
+          ∙ sym (count_more (is_less_busy self o) n),
       fits,
     )
