@@ -1,5 +1,5 @@
 -- The marks and the changes that are kept.
-use Rattle.std.specs.Prelude.{◌≡◌, ℕ, ◌+◌, ◌≤◌, ◌/◌, max, Bool, true, not, ◌&&◌, nat_le, nat_lt, List, [], ◌∷◌, ◌++◌, filter, length, slice_get, slice_set, if◌then◌else◌}
+use Rattle.std.specs.Prelude.{◌≡◌, ℕ, ◌+◌, ◌<◌, ◌≤◌, ◌/◌, max, All, Bool, true, not, ◌&&◌, nat_le, nat_lt, List, [], ◌∷◌, ◌++◌, filter, length, slice_get, slice_set, if◌then◌else◌}
 use Rattle.std.specs.List.{list_all}
 use Rattle.std.specs.Option.{option_map_or}
 use Rattle.due_model.specs.declared.config.ObjectId.{ObjectId}
@@ -108,9 +108,31 @@ kept_change k change =
 
 -- ---- what is kept, of all that there was
 
+-- objects have numbers of 16 bits, and moments are below the greatest number of 64
+abbrev pub AreFit : ObjectId → (moment : ℕ) → Type 0
+AreFit object moment = (object.0 < 65536) × (moment < 18446744073709551615)
+
+abbrev pub IsFitMark : Entry → Type 0
+IsFitMark mark = AreFit (mark_object mark) (mark_moment mark)
+
+abbrev pub IsFitChange : Change → Type 0
+IsFitChange change = AreFit change.object change.moment
+
 -- Those are kept, in order, whose object isn't left out and whose moment isn't before what is kept begins; and no more than fit.
 pub record IsKept (k : Kept) (marks : List Entry) (changes : List Change) : Type 0 where
   pub marks_are : k.marks ≡ filter (λ mark. passes k (mark_object mark).0 (mark_moment mark)) marks
   pub changes_are : k.changes ≡ filter (λ change. passes k change.object.0 change.moment) changes
   pub marks_fit : length k.marks ≤ most
   pub changes_fit : length k.changes ≤ most
+  pub all_marks : All IsFitMark k.marks
+  pub all_changes : All IsFitChange k.changes
+  pub places : length k.out ≡ 65536
+
+-- It is so at first, after one mark more, and after one change more.
+pub record KeepsThem : Type 0 where
+  pub first : IsKept nothing_kept [] []
+  pub mark : (k : Kept) (marks : List Entry) (changes : List Change) (new : Entry) → IsFitMark new
+      → IsKept k marks changes → IsKept (kept_mark k new) (marks ++ new ∷ []) changes
+  pub change : (k : Kept) (marks : List Entry) (changes : List Change) (new : Change)
+      → IsFitChange new
+      → IsKept k marks changes → IsKept (kept_change k new) marks (changes ++ new ∷ [])

@@ -4,7 +4,7 @@ ghost use Rattle.std.specs.Prelude.{◌≡◌, IfOk, OnOk};
 ghost use Rattle.night_marks.specs.Kept.{after_moment, begun_at, given_up, kept_change, kept_mark, left_out};
 ghost use Rattle.night_marks.specs.Kept.{middle_change, middle_mark, narrowed_changes, narrowed_changes_of, narrowed_marks};
 ghost use Rattle.night_marks.specs.Kept.{narrowed_marks_of, nothing_kept, only_changes, only_marks, passes};
-ghost use Rattle.night_marks.specs.Kept.{settled_changes, settled_marks};
+ghost use Rattle.night_marks.specs.Kept.{KeepsThem, settled_changes, settled_marks};
 
 use crate::conditions::Change;
 use crate::counts::activity;
@@ -213,3 +213,10 @@ impl Kept {
         self.settle_changes(alloc)
     }
 }
+
+/// What is kept is, of all marks and all changes that there were, in order, those of the objects that aren't left out, from the moment
+/// on from which some are: at first, after one mark more, and after one change more; and never more than 10,000 of either.
+#[tactic(auto, using(crate::proofs::KeptLaws::keeps_them))]
+pub fn what_is_kept()
+    ensures { KeepsThem }
+{}

@@ -10,6 +10,6 @@ mod night;
 
 pub use conditions::{Change, Condition, Conditions, same};
 pub use counts::shown_objects;
-pub use kept::Kept;
+pub use kept::{Kept, what_is_kept};
 pub use lists::{Changes, Flags, Marks, is_of, mark_object};
 pub use night::{Night, Span};
