@@ -1,5 +1,5 @@
 -- The row of an object: its state, its bands, and its marks, with time to the right.
-use Rattle.std.specs.Prelude.{ℕ, ◌+◌, ◌-◌, ◌*◌, ◌/◌, min, max, Bool, true, false, List, [], ◌++◌, codes, find, flat_map, is_some, length, nat_lt, slice_get, Option, None, Some, if◌then◌else◌}
+use Rattle.std.specs.Prelude.{ℕ, ◌+◌, ◌-◌, ◌*◌, ◌/◌, ◌^◌, min, max, Bool, true, false, List, [], ◌++◌, codes, find, flat_map, is_some, length, nat_lt, slice_get, Option, None, Some, if◌then◌else◌}
 use Rattle.std.specs.List.{range_with_len}
 use Rattle.std.specs.Option.{option_map_or}
 use Rattle.due_model.specs.declared.config.Config.{Config}
@@ -24,12 +24,12 @@ use Rattle.night_picture.specs.Titles.{contact_colour, state_colour, stopped_tit
 
 -- a number of 64 bits that is too great stays at the greatest
 abbrev pub capped : ℕ → ℕ
-capped n = min n 18446744073709551615
+capped n = min n (2 ^ 64 - 1)
 
 -- where a moment is: the time of the picture is 960 wide, from 240 on
 abbrev pub x_at : Span → (moment : ℕ) → ℕ
 x_at span moment =
-    240 + min (capped ((min moment span.last - span.first) * 960) / max 1 (span.last - span.first)) 960
+    240 + min (capped ((min moment span.last - span.first) * 960) / max (span.last - span.first) 1) 960
 
 -- where a row is
 abbrev pub y_at : (place : ℕ) → ℕ

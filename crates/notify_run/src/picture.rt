@@ -10,7 +10,7 @@ use report_picture::{Picture, draw_files, draw_in};
 use report_pretty::PrettyLines;
 use report_telling::Teller;
 use std::fs::{self, File};
-use std::io::{self, ErrorKind, IsTerminal};
+use std::io::{self, ErrorKind, IsTerminal, Write};
 use std::process::ExitCode;
 use text_lines::AnyReader;
 
