@@ -69,7 +69,8 @@ unfoldable pub cut_front : (x y width height : ℕ) → List ℕ
 cut_front x y width height =
     codes "<svg" ++ corner_text x y ++ size_text width height ++ codes "><title>"
 
+unfoldable pub cut_end : (words : List ℕ) → List ℕ
+cut_end words = codes "</title><text x=\"4\" y=\"15\">" ++ words ++ codes "</text></svg>\n"
+
 unfoldable pub cut_text : (x y width height : ℕ) → (words : List ℕ) → List ℕ
-cut_text x y width height words =
-    cut_front x y width height ++ words ++ codes "</title><text x=\"4\" y=\"15\">" ++ words
-    ++ codes "</text></svg>\n"
+cut_text x y width height words = cut_front x y width height ++ words ++ cut_end words

@@ -1,7 +1,7 @@
 //! The shapes of a picture as SVG, and the escapes of XML.
 
 ghost use Rattle.std.specs.Prelude.{◌≡◌, ◌++◌, decimal, flat_map, OnOk};
-ghost use Rattle.night_picture.specs.Shapes.{LeavesNoMarkup, attribute, bar_front, bar_text, corner_text, cut_front, cut_text};
+ghost use Rattle.night_picture.specs.Shapes.{LeavesNoMarkup, attribute, bar_front, bar_text, corner_text, cut_end, cut_front, cut_text};
 ghost use Rattle.night_picture.specs.Shapes.{escaped, escaped_text, round_text, size_text, titled, words_front, words_text};
 
 use itoa::Buffer;
@@ -191,6 +191,16 @@ fn push_cut_front(text: &mut Vec<u8>, place: Place) -> Result<(), AllocError>
     text.extend_from_slice(b"><title>")
 }
 
+/// Adds how it ends: with the text itself, after its title.
+#[tactic(auto, unfolding(crate::specs::Shapes::cut_end))]
+fn push_cut_end(text: &mut Vec<u8>, words: &[u8]) -> Result<(), AllocError>
+    ensures { OnOk result (text.new.items ≡ text.old.items ++ cut_end words.now) }
+{
+    text.extend_from_slice(b"</title><text x=\"4\" y=\"15\">")?;
+    text.extend_from_slice(words)?;
+    text.extend_from_slice(b"</text></svg>\n")
+}
+
 /// Adds a text that is cut off at a width.
 #[tactic(auto, unfolding(crate::specs::Shapes::cut_text))]
 pub(crate) fn push_cut(text: &mut Vec<u8>, place: Place, words: &[u8]) -> Result<(), AllocError>
@@ -199,7 +209,5 @@ pub(crate) fn push_cut(text: &mut Vec<u8>, place: Place, words: &[u8]) -> Result
 {
     push_cut_front(text, place)?;
     text.extend_from_slice(words)?;
-    text.extend_from_slice(b"</title><text x=\"4\" y=\"15\">")?;
-    text.extend_from_slice(words)?;
-    text.extend_from_slice(b"</text></svg>\n")
+    push_cut_end(text, words)
 }

@@ -64,6 +64,7 @@ fn draw_shown<P: Watcher>(
 }
 
 /// A picture's file under way: it has another name beside its own, which it loses once all of it is written.
+#[derive(Drop)]
 struct Unfinished {
     file: File,
     name: String,
