@@ -70,9 +70,13 @@ is_shown counts o = nat_lt 0 (count_at counts o) && nat_lt (rank counts o) 200
 abbrev pub first_shown : List ℕ → (count : ℕ) → List ℕ
 first_shown counts count = filter (is_shown counts) (range_with_len 0 count)
 
+-- and of all
+unfoldable pub all_shown : List ℕ → List ℕ
+all_shown counts = first_shown counts 65536
+
 -- the objects that are shown, in the order of their numbers
 unfoldable pub shown_objects : List Entry → List Change → List ℕ
-shown_objects marks changes = first_shown (activity marks changes) 65536
+shown_objects marks changes = all_shown (activity marks changes)
 
 -- ---- as they are counted
 

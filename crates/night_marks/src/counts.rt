@@ -1,7 +1,7 @@
 //! How busy objects are: how many marks and changes each has.
 
 ghost use Rattle.std.specs.Prelude.{◌≡◌, ◌<◌, ◌≤◌, ◌++◌, length, replicate, IfOk, OnOk};
-ghost use Rattle.night_marks.specs.Counts.{activity, bumped, change_objects, count_at, counted_on, first_shown};
+ghost use Rattle.night_marks.specs.Counts.{activity, all_shown, bumped, change_objects, count_at, counted_on, first_shown};
 ghost use Rattle.night_marks.specs.Counts.{is_less_busy, is_shown, least_of, less_busy, mark_objects, no_counts};
 ghost use Rattle.night_marks.specs.Counts.{one_if, one_more, rank, rank_among, shown_at, shown_objects};
 
@@ -190,6 +190,14 @@ impl Counts {
         }
         Ok(objects)
     }
+
+    /// The objects that are shown.
+    #[tactic(auto, unfolding(crate::specs::Counts::all_shown))]
+    fn all_shown(&self, alloc: Global) -> Result<Vec<u16>, AllocError>
+        ensures { IfOk result (λ objects. objects.items ≡ all_shown self.now) }
+    {
+        self.first_shown(alloc, NUMBERS)
+    }
 }
 
 /// One, where it is so.
@@ -216,6 +224,7 @@ pub(crate) fn activity(
 
 /// The numbers of the objects that are shown of these marks and changes: the busiest, at most 200. A refused growth is the only
 /// error.
+#[tactic(auto, unfolding(crate::specs::Counts::shown_objects))]
 pub fn shown_objects(
     alloc: Global,
     marks: &[Entry],
@@ -224,5 +233,5 @@ pub fn shown_objects(
     ensures { IfOk result (λ objects. objects.items ≡ shown_objects marks.now changes.now) }
 {
     let counts = activity(alloc, marks, changes)?;
-    counts.first_shown(alloc, NUMBERS)
+    counts.all_shown(alloc)
 }

@@ -1,4 +1,4 @@
-use Rattle.std.proofs.Common.{◌≡◌, ◌++◌, ◌×◌, drop, map}
+use Rattle.std.proofs.Common.{◌≡◌, ◌++◌, drop, map}
 use Rattle.line_forms.specs.declared.report_line.ReportLine.TheVariants.{Decided}
 use Rattle.report_telling.specs.Told.{after_all, form_of, told_all}
 use Rattle.report_picture.proofs.drawing.tell_entries.Given as goal

@@ -8,9 +8,9 @@ loop-number-preserved c =
     let self = c.args.self.now in
     let o = c.args.object.0 in
     let n = c.loop-number.number in
-    let fits : c.loop-number.busier + c.one_if.result ≤ n + 1 = omega (arith, c.loop-number.invariant.1, c.one_if.ensures.bound) in (
-      ap (λ (k : ℕ). k + c.one_if.result) c.loop-number.invariant.0
-          ∙ ap (λ (k : ℕ). rank_among self o n + k) (c.one_if.ensures.value ∙ ap (λ (b : Bool). one_if b) c.is_less_busy.ensures)
+    let fits : c.loop-number.busier + c.one_if-busier.result ≤ n + 1 = omega (arith, c.loop-number.invariant.1, c.one_if-busier.ensures.bound) in (
+      ap (λ (k : ℕ). k + c.one_if-busier.result) c.loop-number.invariant.0
+          ∙ ap (λ (k : ℕ). rank_among self o n + k) (c.one_if-busier.ensures.value ∙ ap (λ (b : Bool). one_if b) c.is_less_busy.ensures)
           ∙ sym (count_more (is_less_busy self o) n),
       fits,
     )

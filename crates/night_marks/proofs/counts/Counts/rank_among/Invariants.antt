@@ -1,4 +1,4 @@
-use Rattle.std.proofs.Common.{◌≡◌, ◌≤◌, ◌×◌}
+use Rattle.std.proofs.Common.{◌≡◌, ◌≤◌}
 use Rattle.night_marks.specs.Counts.{rank_among}
 use Rattle.night_marks.proofs.counts.Counts.rank_among.Given as goal
 
