@@ -1,7 +1,8 @@
-use Rattle.std.proofs.Common.{◌≡◌, List, ◌∷◌, ◌++◌, [], cond, None, Ok, Some, refl, rules, ap, sym, ◌∙◌}
+use Rattle.std.proofs.Common.{◌≡◌, List, ◌∷◌, ◌++◌, [], cond, None, Ok, Some, refl, rules, ap, subst, sym, ◌∙◌}
 use Rattle.std.proofs.lemmas.List.{append-nil}
 use Rattle.std.proofs.lemmas.Option.{IfSome_then}
 use Rattle.std.proofs.lemmas.Result.{IfOk-weaker}
+use Rattle.decider.specs.Fits.{Fits, core_kept}
 use Rattle.event_feed.specs.Feed.{Answer, AreGivenBy, refusal}
 use Rattle.event_feed.specs.FeedLaws.{event_answers, fault_last, next_given, none_given}
 use Rattle.line_forms.specs.declared.report_line.ReportLine.{ReportLine}
@@ -103,7 +104,7 @@ returns-in-None-clause-goes_on g c =
         refusal fault,
         taken_same config.objects past c.args.self.now.feeder (refusal fault) c.next.new.self c.refuse.new.self.feeder same
             (fault_taken config.objects past c.args.self.now.feeder c.next.new.self fault (sym (ap (λ f. f.stop) same) ∙ stopped) c.in-Err.ensures.fault),
-        search rules,
+        subst (λ d. Fits (core_kept d) past) (sym c.refuse.ensures.decider) s,
         c.in_ok-refuse-in-Err.ensures.text ∙ ap (λ (xs : List _). text ++ xs) (told-one form teller (refusal_line fault.line fault.fault)),
         c.in_ok-refuse-in-Err.ensures.teller,
         c.refuse.ensures.night,
