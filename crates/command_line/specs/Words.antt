@@ -54,13 +54,15 @@ pub record IsZoneOf (options : Found) (words : ZoneWords) : Type 0 where
   pub rule : option_copied words.rule ≡ first_value options (codes "zone")
   pub file : option_copied words.file ≡ first_value options (codes "zone-file")
 
--- the texts that they hold of which lines of a report are wanted, and whether each is to be JSON, or for people
+-- the texts that they hold of which lines of a report are wanted, whether each is to be JSON, or for people, and of the picture's
+-- file
 pub record IsShownOf (options : Found) (words : ShownWords) : Type 0 where
   pub only : option_copied words.only ≡ first_value options (codes "only")
   pub object : option_copied words.object ≡ first_value options (codes "object")
   pub contact : option_copied words.contact ≡ first_value options (codes "contact")
   pub json : IsFlag options (codes "json") words.json
   pub pretty : IsFlag options (codes "pretty") words.pretty
+  pub picture : option_copied words.picture ≡ first_value options (codes "picture")
 
 -- An option holds the number: what is read of it is the number in decimal digits.
 abbrev pub HoldsNumber : Found → (name : List ℕ) → (number : ℕ) → Type 0
@@ -299,10 +301,11 @@ abbrev pub with_shown : App → App
 with_shown app =
     with_rule (with_rule (with_picks app) (flag_option (codes "json"))) (flag_option (codes "pretty"))
 
--- `replay` has these, and the file of the object text
+-- `replay` has these, the file of the object text, and that of a picture
 abbrev pub replay_words : App
 replay_words =
-    with_zone (with_shown (with_rule (new_app (codes "replay")) (text_option (codes "objects"))))
+    with_zone (with_rule (with_shown (with_rule (new_app (codes "replay")) (text_option (codes "objects"))))
+    (text_option (codes "picture")))
 
 -- two say how many notices a lane's queue holds, and how many tries a message has
 abbrev pub with_lane_options : App → App

@@ -22,7 +22,7 @@ pub struct ZoneWords<'a> {
 }
 
 /// What a command line says of a report's lines: which are wanted, those that meet each condition that is given, and
-/// whether each is to be JSON, or for people; both are one too many.
+/// whether each is to be JSON, or for people; both are one too many. And where the feed's picture goes.
 #[derive(Clone, Copy, Debug, PartialEq, Eq)]
 pub struct ShownWords<'a> {
     /// Letters of lines.
@@ -35,6 +35,8 @@ pub struct ShownWords<'a> {
     pub json: bool,
     /// Whether lines are to be written for people.
     pub pretty: bool,
+    /// The file of the picture, if there is to be one.
+    pub picture: Option<&'a str>,
 }
 
 /// Whether a line of a report begins with this letter.

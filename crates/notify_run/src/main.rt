@@ -16,6 +16,7 @@ mod check;
 mod diff;
 mod faults;
 mod feeds;
+mod picture;
 mod pretty;
 mod who;
 mod why;
@@ -30,6 +31,7 @@ use due_model::zone::Zone;
 use faults::{say_more, say_more_of_input};
 use feeds::status_of_feed;
 use line_forms::Picks;
+use picture::status_of_picture;
 use pretty::pretty_through;
 use progress::{ProgressLine, Watcher};
 use replay::{replay_files, replay_in};
@@ -51,7 +53,7 @@ use why::status_of_why;
 use zones::{status_of_zone, zone_asked};
 
 /// Says on standard error what a command failed with, if it did, and gives its exit status.
-fn status_of<R: Eprint>(rt: &R, outcome: Result<Ending, CommandFault>) -> ExitCode
+pub(crate) fn status_of<R: Eprint>(rt: &R, outcome: Result<Ending, CommandFault>) -> ExitCode
     ensures { exit_status result ≡ outcome_status outcome }
 {
     if let Err(fault) = outcome {
@@ -140,7 +142,7 @@ fn replay_through<P: Watcher>(
 }
 
 /// Which lines are wanted.
-fn picks_of(words: ShownWords<'_>) -> Picks<'_>
+pub(crate) fn picks_of(words: ShownWords<'_>) -> Picks<'_>
     ensures { ArePickedBy words.entry result }
 {
     Picks {
@@ -151,7 +153,7 @@ fn picks_of(words: ShownWords<'_>) -> Picks<'_>
 }
 
 /// Which lines are wanted, and how they are written.
-fn shown_lines(alloc: Global, words: ShownWords<'_>) -> ShownLines<'_>
+pub(crate) fn shown_lines(alloc: Global, words: ShownWords<'_>) -> ShownLines<'_>
     ensures { AreShownBy words.entry result }
 {
     let form = if words.json {
@@ -275,10 +277,13 @@ fn status_of_request<T: Threads + Wait + Clock + Sync>(
         Err(fault) => return status_of_zone(rt, words, fault),
     };
     match request {
-        Request::Replay { objects, shown, .. } => {
-            let outcome = do_replay(rt, &zone, objects, shown);
-            status_of_replay(rt, objects, outcome)
-        }
+        Request::Replay { objects, shown, .. } => match shown.picture {
+            Some(path) => status_of_picture(rt, &zone, objects, shown, path),
+            None => {
+                let outcome = do_replay(rt, &zone, objects, shown);
+                status_of_replay(rt, objects, outcome)
+            }
+        },
         Request::Trace {
             settings,
             standbys,

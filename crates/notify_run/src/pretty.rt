@@ -11,7 +11,7 @@ use std::io::IsTerminal;
 use text_lines::AnyReader;
 
 /// Whether standard output takes colours: it is a terminal, and the variable NO_COLOR isn't set, or is empty.
-fn has_colours(rt: &HostRuntime) -> bool {
+pub(crate) fn has_colours(rt: &HostRuntime) -> bool {
     if !rt.stdout().is_terminal() {
         return false;
     }

@@ -1,0 +1,2 @@
+pub mod DrawingLaws
+pub mod DrawsLaws
