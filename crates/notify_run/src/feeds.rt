@@ -5,24 +5,29 @@ ghost use Rattle.std.specs.Process.{exit_status};
 ghost use Rattle.run_resumed.specs.Fault.{resume_status};
 
 use crate::faults::say_more_of_run;
-use crate::status_of_run;
+use crate::{out_of_memory, status_of_run};
 use command_line::{FeedWords, LogWords};
 use command_output::{AnyWriter, Ending};
 use due_model::zone::Zone;
 use feed_file::{Feed, FeedFile, FeedWays};
 use run_devices::{
-    LogPlace, LoggedWords, RunFault, RunSettings, RunWords, do_logged_run, do_run,
+    FeedTimes, LogPlace, LoggedWords, MeteredFeed, MetricsPlace, RunFault, RunSettings, RunWords,
+    do_logged_run, do_run,
 };
 use run_resumed::{
     ResumeFault, Resumed, ResumedSettings, StateSettings, do_logged_resumed_run, do_resumed_run,
 };
+use std::alloc::{AllocError, Global};
 use std::io::{self, Eprint};
 use std::process::ExitCode;
 use std::rt::Stdin;
-use std::sync::Wait;
+use std::sync::{Arc, Wait};
 use std::thread::Threads;
 use std::time::Clock;
 use text_lines::AnyReader;
+
+/// A feed as a run reads it.
+type RunFeed = MeteredFeed<AnyReader<Feed<Stdin>>>;
 
 /// The feed of a run: standard input, or the file that is named, from its start.
 fn feed_of(rt: &HostRuntime, feed: FeedWords<'_>, is_quiet: bool) -> io::Result<Feed<Stdin>> {
@@ -35,6 +40,24 @@ fn feed_of(rt: &HostRuntime, feed: FeedWords<'_>, is_quiet: bool) -> io::Result<
         is_quiet,
     };
     Ok(Feed::File(FeedFile::open(rt, path, ways)?))
+}
+
+/// Where the metrics of a run are written to, if they are.
+fn metrics_place<'m>(
+    log: LogWords<'m>,
+    times: &'m Arc<FeedTimes, Global>,
+) -> Option<MetricsPlace<'m>> {
+    let path = log.metrics?;
+    Some(MetricsPlace { path, times })
+}
+
+/// The feed, when whose lines come is noted where metrics are written.
+fn noted_feed(feed: Feed<Stdin>, metrics: Option<MetricsPlace<'_>>) -> Result<RunFeed, AllocError> {
+    let times = match metrics {
+        Some(place) => Some(Arc::try_clone(place.times)?),
+        None => None,
+    };
+    Ok(MeteredFeed::new(AnyReader::new(feed), times))
 }
 
 /// Does a run, and gives its exit status. The file of its feed is opened before anything else.
@@ -53,6 +76,13 @@ pub(crate) fn status_of_feed<T: Threads + Wait + Clock + Sync>(
         let _ = rt.eprintln(format_args!("feed: {path}: not opened"));
         return ExitCode::from(1);
     };
+    let Ok(times) = Arc::new(rt.alloc(), FeedTimes::new(rt)) else {
+        return out_of_memory(rt);
+    };
+    let metrics = metrics_place(log, &times);
+    let Ok(opened) = noted_feed(opened, metrics) else {
+        return out_of_memory(rt);
+    };
     if let Some(folder) = feed.state.folder {
         let settings = ResumedSettings {
             run: settings,
@@ -66,17 +96,13 @@ pub(crate) fn status_of_feed<T: Threads + Wait + Clock + Sync>(
         let words = RunWords {
             objects,
             channels,
-            metrics: log.metrics,
+            metrics,
         };
         return status_of_resumed(rt, threads, zone, words, settings, log, opened);
     }
-    let LogWords {
-        file,
-        fold,
-        metrics,
-    } = log;
-    match file {
+    match log.file {
         Some(file) => {
+            let fold = log.fold;
             let words = LoggedWords {
                 objects,
                 channels,
@@ -103,9 +129,8 @@ fn status_of_logged<T: Threads + Wait + Clock + Sync>(
     zone: &Zone,
     words: LoggedWords<'_, '_>,
     settings: RunSettings,
-    feed: Feed<Stdin>,
+    feed: RunFeed,
 ) -> ExitCode {
-    let feed = AnyReader::new(feed);
     let mut writer = AnyWriter::new(rt.stdout());
     let outcome = do_logged_run(rt, threads, zone, words, settings, feed, &mut writer);
     let outcome = outcome.map(|done| done.ending);
@@ -119,9 +144,8 @@ fn status_of_new<T: Threads + Wait + Clock + Sync>(
     zone: &Zone,
     words: RunWords<'_, '_>,
     settings: RunSettings,
-    feed: Feed<Stdin>,
+    feed: RunFeed,
 ) -> ExitCode {
-    let feed = AnyReader::new(feed);
     let mut writer = AnyWriter::new(rt.stdout());
     let outcome = do_run(rt, threads, zone, words, settings, feed, &mut writer);
     let outcome = outcome.map(|done| done.ending);
@@ -151,9 +175,8 @@ fn status_of_resumed<T: Threads + Wait + Clock + Sync>(
     words: RunWords<'_, '_>,
     settings: ResumedSettings<'_>,
     log: LogWords<'_>,
-    feed: Feed<Stdin>,
+    feed: RunFeed,
 ) -> ExitCode {
-    let feed = AnyReader::new(feed);
     let mut writer = AnyWriter::new(rt.stdout());
     let outcome = match log.file {
         Some(file) => {
