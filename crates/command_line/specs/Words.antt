@@ -91,10 +91,11 @@ TraceLacks options = (deciders standbys : ℕ) → HoldsNumber options (codes "d
     → HoldsNumber options (codes "standbys") standbys → standbys < max_channels
     → HoldFitting options deciders → ⊥
 
--- the file that the options of `run` hold of a log, and whether its lines are folded
+-- the file that the options of `run` hold of a log, whether its lines are folded, and the file that they hold of metrics
 pub record IsLogOf (options : Found) (words : LogWords) : Type 0 where
   pub file : option_copied words.file ≡ first_value options (codes "log")
   pub fold : IsFlag options (codes "fold") words.fold
+  pub metrics : option_copied words.metrics ≡ first_value options (codes "metrics")
 
 -- the seconds that the options of `run` hold
 pub record HoldTimes (options : Found) (times : TryTimes) : Type 0 where
@@ -304,12 +305,13 @@ abbrev pub with_feed_options : App → App
 with_feed_options app =
     with_rule (with_rule (with_rule app (text_option (codes "feed"))) (flag_option (codes "follow"))) (flag_option (codes "clock"))
 
--- two say where a run writes its report as it goes, and that lines of it are folded
+-- three say where a run writes its report as it goes, that lines of it are folded, and where it writes its metrics
 abbrev pub with_log_options : App → App
-with_log_options app = with_rule (with_rule app (text_option (codes "log"))) (flag_option (codes "fold"))
+with_log_options app =
+    with_rule (with_rule (with_rule app (text_option (codes "log"))) (flag_option (codes "fold"))) (text_option (codes "metrics"))
 
 -- `run` has the file of the object text, which must be given, how many deciders there are, how many notices a lane's queue holds,
--- these, how far ahead a stamp may be, where its report goes, `--quiet`, where the feed is read from, and the channel words
+-- these, how far ahead a stamp may be, where its report and its metrics go, `--quiet`, where the feed is read from, and the channel words
 abbrev pub run_words : App
 run_words =
     with_rule (with_zone (with_feed_options (with_rule (with_log_options (with_rule (with_try_options (with_rule (with_rule (with_rule (new_app (codes "run"))

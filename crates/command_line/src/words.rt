@@ -100,13 +100,15 @@ pub struct TryTimes {
     pub pause: u8,
 }
 
-/// Where a run writes its report as it goes.
+/// Where a run writes its report and its metrics as it goes.
 #[derive(Clone, Copy, Debug, PartialEq, Eq)]
 pub struct LogWords<'a> {
-    /// The file, if there is one.
+    /// The file of the report, if there is one.
     pub file: Option<&'a str>,
     /// Whether lines that repeat the one before are folded.
     pub fold: bool,
+    /// The file of the metrics, if there is one.
+    pub metrics: Option<&'a str>,
 }
 
 /// What a command line says of where the feed of a run is read from.

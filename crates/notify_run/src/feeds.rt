@@ -5,7 +5,7 @@ use command_line::{FeedWords, LogWords};
 use command_output::AnyWriter;
 use due_model::zone::Zone;
 use feed_file::{Feed, FeedFile, FeedWays};
-use run_devices::{LogPlace, LoggedWords, RunSettings, do_logged_run, do_run};
+use run_devices::{LogPlace, LoggedWords, RunSettings, RunWords, do_logged_run, do_run};
 use std::io;
 use std::process::ExitCode;
 use std::rt::Stdin;
@@ -43,17 +43,29 @@ pub(crate) fn status_of_feed<T: Threads + Wait + Clock + Sync>(
         let _ = rt.eprintln(format_args!("feed: {path}: not opened"));
         return ExitCode::from(1);
     };
-    match log.file {
+    let LogWords {
+        file,
+        fold,
+        metrics,
+    } = log;
+    match file {
         Some(file) => {
-            let fold = log.fold;
             let words = LoggedWords {
                 objects,
                 channels,
                 log: LogPlace { file, fold },
+                metrics,
             };
             status_of_logged(rt, threads, zone, words, settings, opened)
         }
-        None => status_of_new(rt, threads, zone, objects, settings, channels, opened),
+        None => {
+            let words = RunWords {
+                objects,
+                channels,
+                metrics,
+            };
+            status_of_new(rt, threads, zone, words, settings, opened)
+        }
     }
 }
 
@@ -77,22 +89,12 @@ fn status_of_new<T: Threads + Wait + Clock + Sync>(
     rt: &HostRuntime,
     threads: &T,
     zone: &Zone,
-    objects: &str,
+    words: RunWords<'_, '_>,
     settings: RunSettings,
-    channels: Option<&[&str]>,
     feed: Feed<Stdin>,
 ) -> ExitCode {
     let feed = AnyReader::new(feed);
     let mut writer = AnyWriter::new(rt.stdout());
-    let outcome = do_run(
-        rt,
-        threads,
-        zone,
-        objects,
-        settings,
-        channels,
-        feed,
-        &mut writer,
-    );
+    let outcome = do_run(rt, threads, zone, words, settings, feed, &mut writer);
     status_of_run(rt, outcome.map(|done| done.ending))
 }

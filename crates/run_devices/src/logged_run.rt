@@ -16,6 +16,7 @@ use crate::horizon::ClockHorizon;
 use crate::log_writer::LogWriter;
 use crate::run::{RunDone, SentChannel, open_words, posts_of};
 use crate::run_log::RunLog;
+use crate::run_metrics::metrics_at;
 use crate::settings::RunSettings;
 use crate::teller::Teller;
 use crate::watched::Watched;
@@ -45,6 +46,8 @@ pub struct LoggedWords<'m, 'a> {
     pub channels: Option<&'m [&'a str]>,
     /// Where the lines of the report go.
     pub log: LogPlace<'a>,
+    /// The file that its metrics are written to, if they are.
+    pub metrics: Option<&'m str>,
 }
 
 /// Where the report of a run goes as it goes.
@@ -94,6 +97,7 @@ pub fn do_logged_run<'m, 'a, T: Threads + Wait + Clock + Sync, R: Input + Drop, 
         LogSettings {
             run: settings,
             log: words.log,
+            metrics: words.metrics,
         },
         OpenedLanes { lanes, channels },
         feed,
@@ -104,9 +108,10 @@ pub fn do_logged_run<'m, 'a, T: Threads + Wait + Clock + Sync, R: Input + Drop, 
 
 /// How a run with a log is set up.
 #[derive(Clone, Copy, Debug)]
-struct LogSettings<'a> {
+struct LogSettings<'m, 'a> {
     run: RunSettings,
     log: LogPlace<'a>,
+    metrics: Option<&'m str>,
 }
 
 /// The channels of a run, each for the lane at its place.
@@ -122,7 +127,7 @@ fn log_through<'a, T: Threads + Wait + Clock + Sync, R: Input + Drop, W: Sink>(
     threads: &T,
     config: Config,
     zone: &Zone,
-    settings: LogSettings<'_>,
+    settings: LogSettings<'_, '_>,
     opened: OpenedLanes,
     feed: R,
     writer: &mut W,
@@ -140,7 +145,13 @@ fn log_through<'a, T: Threads + Wait + Clock + Sync, R: Input + Drop, W: Sink>(
     let alloc = rt.alloc();
     let config = Arc::new(alloc, config)?;
     let log = opened_log(rt, Arc::try_clone(&config)?, settings.log.file)?;
-    let watched = Watched::new(rt, threads, settings.run.quiet, Some(log))?;
+    let metrics = metrics_at(
+        rt,
+        &config,
+        settings.run.settings.deciders,
+        settings.metrics,
+    )?;
+    let watched = Watched::new(rt, threads, settings.run.quiet, Some(log), metrics)?;
     let OpenedLanes { lanes, channels } = opened;
     let posts = posts_of(
         alloc,
@@ -190,7 +201,9 @@ pub fn log_posts<C: Channel, T: Threads + Wait + Clock + Sync, R: Input + Drop, 
     let deciders = settings.settings.deciders;
     let logs = decider_lines(alloc, config, deciders, fold, &teller)?;
     let rt = *watched.rt;
-    let watcher = watched.watcher;
+    let feed = watched.feed(feed)?;
+    let mut watcher = watched.watcher;
+    watcher.write_metrics(Arc::try_clone(&teller)?);
     let mut way = WayMaker::new(Arc::try_clone(&watched.counts)?);
     let LoggedEnd {
         outcome,
@@ -231,8 +244,8 @@ fn finish_logs(logs: Vec<DeciderLines>) {
     }
 }
 
-/// The log in the file at a path.
-fn opened_log(
+/// The log in the file at a path. One that can't be opened is what the output fails at.
+pub fn opened_log(
     rt: &HostRuntime,
     config: Arc<Config, Global>,
     path: &str,

@@ -1,13 +1,18 @@
-//! What a run counts by, what says at once what fails, and who shows how far it is.
+//! What a run counts by, what says at once what fails, and who shows how far it is and writes its metrics.
+
+ghost use Rattle.std.specs.Prelude.{◌≡◌, IfOk};
 
 use crate::counted::CountingGate;
+use crate::metered_feed::MeteredFeed;
 use crate::run_log::RunLog;
+use crate::run_metrics::RunMetrics;
 use crate::teller::Teller;
 use crate::watcher::RunWatcher;
 use progress::Counts;
 use std::alloc::{AllocError, Global};
 use std::sync::Arc;
 use std::thread::Threads;
+use text_lines::Input;
 
 /// What watches a run. From when it is made a terminal at standard error shows what is counted.
 #[derive(Drop)]
@@ -22,16 +27,17 @@ pub struct Watched<'r, T: Threads> {
 }
 
 impl<'r, T: Threads> Watched<'r, T> {
-    /// What watches a run on this machine, which is quiet or not, and has a log or none. A refused growth is the only error.
+    /// What watches a run on this machine, which is quiet or not, and has a log and metrics or none. A refused growth is the only error.
     pub fn new(
         rt: &'r HostRuntime,
         threads: &'r T,
         is_quiet: bool,
         log: Option<RunLog>,
+        metrics: Option<RunMetrics>,
     ) -> Result<Watched<'r, T>, AllocError> {
         let counts = Arc::new(rt.alloc(), Counts::new())?;
         let watcher = RunWatcher::new(rt, threads, Arc::try_clone(&counts)?);
-        let teller = Teller::new(rt, Arc::try_clone(&counts)?, is_quiet, log);
+        let teller = Teller::new(rt, Arc::try_clone(&counts)?, is_quiet, log, metrics);
         Ok(Watched {
             rt,
             threads,
@@ -39,6 +45,13 @@ impl<'r, T: Threads> Watched<'r, T> {
             teller: Arc::new(rt.alloc(), teller)?,
             watcher,
         })
+    }
+
+    /// A feed whose lines are noted for the metrics. A refused growth is the only error.
+    pub(crate) fn feed<R: Input + Drop>(&self, feed: R) -> Result<MeteredFeed<R>, AllocError>
+        ensures { IfOk result (λ metered. metered ≡ R.remaining feed) }
+    {
+        Ok(MeteredFeed::new(feed, Arc::try_clone(&self.teller)?))
     }
 
     /// A gate that counts there, and before the second try of a letter has so many seconds pass.

@@ -18,6 +18,12 @@ returns-in_err-done-clause-fault g c =
     let fails = command_fails _ c.in_err-done.field-0.0 c.in_ok-config.config c.in_ok-config.lanes.items c.in_ok-config.ensures.right.right c.in_err-done.ensures.fault in
     search rules
 
+pub returns-in_err-metrics-clause-fault : goal.returns-in_err-metrics-clause-fault
+returns-in_err-metrics-clause-fault g c = (c.in_ok-config.ensures.right.right.words, c.in_ok-config.ensures.right.right.read)
+
+pub returns-in_err-watched-clause-fault : goal.returns-in_err-watched-clause-fault
+returns-in_err-watched-clause-fault g c = (c.in_ok-config.ensures.right.right.words, c.in_ok-config.ensures.right.right.read)
+
 pub returns-clause-ok : goal.returns-clause-ok
 returns-clause-ok g c =
     let done = c.in_ok-done.ensures.report in
