@@ -54,14 +54,6 @@ pub by_same : {C V : Type 0} (account : C → Account) (offered : C → List Off
 by_same account offered items can_fail is_open zone tries posts given_back known before after ending c config same wrote =
     subst (λ (x : Config). WritesLogged account offered items can_fail is_open x zone tries posts given_back known ending before after) same wrote
 
--- what is so of a run of a feed is so of one of whose bytes as much is known
-pub logged_known : {C V : Type 0} (account : C → Account) (offered : C → List Offer → C → Type 0) (items : V → List C) (can_fail is_open : Bool) (c : Config) (zone : Zone) (tries : ℕ) (posts : List (Post C)) (given_back : List V)
-    (known same before after : Option (List ℕ)) (ending : Ending) → known ≡ same
-    → WritesLogged account offered items can_fail is_open c zone tries posts given_back known ending before after
-    → WritesLogged account offered items can_fail is_open c zone tries posts given_back same ending before after
-logged_known account offered items can_fail is_open c zone tries posts given_back known same before after ending is wrote =
-    subst (λ (x : Option (List ℕ)). WritesLogged account offered items can_fail is_open c zone tries posts given_back x ending before after) is wrote
-
 -- what is so where one has ended is so where it ended with the other's ending
 pub ended_so : {F : Type 0} (result : Result Ending F) (outcome : Result Ending CommandFault) (P : Ending → Type 0) → IfOk result (λ ending. outcome ≡ Ok ending) → IfOk outcome P → IfOk result P
 ended_so (Err fault) outcome P same is = tt

@@ -2,13 +2,11 @@
 use Rattle.std.proofs.Common.{◌≡◌, ◌==◌, ◌<◌, ◌+◌, ℕ, suc, Bool, true, false, cond, ⊎_elim, filter, Option, List, [], ◌∷◌, ◌++◌, length, get_or, map, drop, take, refl, subst, ap, ap₂, sym, ◌∙◌, append_assoc, length-append, arith}
 use Rattle.std.proofs.lemmas.List.{length-map, map-append, take_all, take_more}
 use Rattle.std.proofs.lemmas.Bool.{cases_Bool}
-use Rattle.channel.specs.Channels.{Account, Offer}
 use Rattle.channel_words.specs.Lanes.{channels_for}
 use Rattle.command_output.specs.declared.outcome.Ending.{Ending}
 use Rattle.due_model.specs.declared.config.Config.{Config}
 use Rattle.due_model.specs.declared.config.LaneId.{LaneId}
 use Rattle.due_model.specs.declared.zone.Zone.{Zone}
-use Rattle.engine.specs.declared.post.Post.{Post}
 use Rattle.engine.specs.declared.run_end.RunEnd.{RunEnd}
 use Rattle.engine.specs.Lanes.{IsCause, LaneParts, count_of}
 use Rattle.run_command.specs.Report.{IsRun, WritesReport}
@@ -18,7 +16,7 @@ use Rattle.channel_words.specs.declared.word.ChannelWord.{ChannelWord}
 use Rattle.channel_kinds.specs.declared.device.AnyDevice.{AnyDevice}
 use Rattle.channel_kinds.specs.DeviceChannel.{Held}
 use Rattle.run_devices.specs.Channels.{Opened, asked, asked_from, numbered_from, opened}
-use Rattle.run_devices.specs.Done.{AreOpened, WritesRun}
+use Rattle.run_devices.specs.Done.{AreOpened}
 use Rattle.run_devices.specs.Fault.{AreRight, IsCommandFault, RunFails}
 
 module _ {X L : Type 0} (before rest whole : List X) (lanes : List L) (all : before ++ rest ≡ whole) (count : length whole ≡ length lanes) where
@@ -92,14 +90,6 @@ run_posted can_fail is_open c zone given same tie known end is (run, read, near,
 pub report_posted : (can_fail is_open : Bool) (c : Config) (zone : Zone) (given same : ℕ → ℕ) (tie : List LaneParts → Type 0) (known before after : Option (List ℕ)) (ending : Ending) → ((l : ℕ) → given l ≡ same l)
     → WritesReport can_fail is_open c zone given tie known ending before after → WritesReport can_fail is_open c zone same tie known ending before after
 report_posted can_fail is_open c zone given same tie known before after ending is wrote = (wrote.0, run_posted can_fail is_open c zone given same tie known wrote.0 is wrote.1, wrote.2, wrote.3, wrote.4)
-
--- what is so of a run of a feed is so of one of whose bytes as much is known
-pub by_known : {C V : Type 0} (account : C → Account) (offered : C → List Offer → C → Type 0) (items : V → List C) (can_fail is_open : Bool) (c : Config) (zone : Zone) (tries : ℕ) (posts : List (Post C)) (given_back : List V)
-    (known same before after : Option (List ℕ)) (ending : Ending) → known ≡ same
-    → WritesRun account offered items can_fail is_open c zone tries posts given_back known ending before after
-    → WritesRun account offered items can_fail is_open c zone tries posts given_back same ending before after
-by_known account offered items can_fail is_open c zone tries posts given_back known same before after ending is wrote =
-    subst (λ (x : Option (List ℕ)). WritesRun account offered items can_fail is_open c zone tries posts given_back x ending before after) is wrote
 
 -- ---- the words
 

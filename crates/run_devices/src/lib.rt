@@ -4,10 +4,11 @@
 pub mod channels;
 pub mod counted;
 pub mod fault;
+pub mod feed_times;
 pub mod horizon;
 mod log_writer;
 pub mod logged_run;
-mod metered_feed;
+pub mod metered_feed;
 mod meters;
 mod rotated_file;
 pub mod run;
@@ -19,8 +20,10 @@ pub mod watched;
 mod watcher;
 
 pub use fault::RunFault;
+pub use feed_times::FeedTimes;
 pub use logged_run::{LogPlace, LoggedWords, do_logged_run};
+pub use metered_feed::MeteredFeed;
 pub use run::{RunWords, do_run};
-pub use run_metrics::{RunMetrics, metrics_at};
+pub use run_metrics::{MetricsPlace, RunMetrics, metrics_at};
 pub use settings::RunSettings;
 pub use watched::Watched;

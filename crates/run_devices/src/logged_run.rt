@@ -16,7 +16,7 @@ use crate::horizon::ClockHorizon;
 use crate::log_writer::LogWriter;
 use crate::run::{RunDone, SentChannel, open_words, posts_of};
 use crate::run_log::RunLog;
-use crate::run_metrics::metrics_at;
+use crate::run_metrics::{MetricsPlace, metrics_at};
 use crate::settings::RunSettings;
 use crate::teller::Teller;
 use crate::watched::Watched;
@@ -38,7 +38,7 @@ use text_lines::Input;
 type DeciderLines = LineLog<AnyWriter<LogWriter>>;
 
 /// What a run with a log is asked.
-#[derive(Clone, Copy, Debug)]
+#[derive(Clone, Copy)]
 pub struct LoggedWords<'m, 'a> {
     /// The file with the object text.
     pub objects: &'m str,
@@ -46,8 +46,8 @@ pub struct LoggedWords<'m, 'a> {
     pub channels: Option<&'m [&'a str]>,
     /// Where the lines of the report go.
     pub log: LogPlace<'a>,
-    /// The file that its metrics are written to, if they are.
-    pub metrics: Option<&'m str>,
+    /// Where its metrics are written to, if they are.
+    pub metrics: Option<MetricsPlace<'m>>,
 }
 
 /// Where the report of a run goes as it goes.
@@ -107,11 +107,11 @@ pub fn do_logged_run<'m, 'a, T: Threads + Wait + Clock + Sync, R: Input + Drop, 
 }
 
 /// How a run with a log is set up.
-#[derive(Clone, Copy, Debug)]
+#[derive(Clone, Copy)]
 struct LogSettings<'m, 'a> {
     run: RunSettings,
     log: LogPlace<'a>,
-    metrics: Option<&'m str>,
+    metrics: Option<MetricsPlace<'m>>,
 }
 
 /// The channels of a run, each for the lane at its place.
@@ -201,7 +201,6 @@ pub fn log_posts<C: Channel, T: Threads + Wait + Clock + Sync, R: Input + Drop, 
     let deciders = settings.settings.deciders;
     let logs = decider_lines(alloc, config, deciders, fold, &teller)?;
     let rt = *watched.rt;
-    let feed = watched.feed(feed)?;
     let mut watcher = watched.watcher;
     watcher.write_metrics(Arc::try_clone(&teller)?);
     let mut way = WayMaker::new(Arc::try_clone(&watched.counts)?);

@@ -2,7 +2,7 @@
 
 ghost use Rattle.std.specs.Prelude.{◌≡◌};
 
-use crate::teller::Teller;
+use crate::feed_times::FeedTimes;
 use std::alloc::Global;
 use std::io::{self, Read};
 use std::marker::Model;
@@ -90,23 +90,23 @@ fn look(from: Place, bytes: &[u8]) -> (Place, bool, bool) {
     (place, has_line, has_clock)
 }
 
-/// Tells a teller that counts for metrics of the next bytes of a feed, from a place in a line on. It gives where they leave it.
-fn told(teller: &Teller, from: Place, bytes: &[u8]) -> Place {
-    if !teller.is_metered() {
+/// Notes the next bytes of a feed, from a place in a line on, where they are to be noted. It gives where they leave it.
+fn noted(times: Option<&Arc<FeedTimes, Global>>, from: Place, bytes: &[u8]) -> Place {
+    let Some(times) = times else {
         return from;
-    }
+    };
     let (place, has_line, has_clock) = look(from, bytes);
     if has_line {
-        teller.saw_lines(has_clock);
+        times.see(has_clock);
     }
     place
 }
 
-/// A feed of a run, which tells a teller of its lines.
+/// A feed of a run, when whose lines come is noted where that is wanted.
 #[derive(Drop)]
 pub struct MeteredFeed<R: Input> {
     reader: R,
-    teller: Arc<Teller, Global>,
+    times: Option<Arc<FeedTimes, Global>>,
     place: Place,
 }
 
@@ -120,12 +120,12 @@ impl<R: Input> Model for MeteredFeed<R> {
 
 impl<R: Input> MeteredFeed<R> {
     /// This feed, of which nothing was read.
-    pub(crate) fn new(reader: R, teller: Arc<Teller, Global>) -> Self
+    pub fn new(reader: R, times: Option<Arc<FeedTimes, Global>>) -> Self
         ensures { result ≡ R.remaining reader }
     {
         MeteredFeed {
             reader,
-            teller,
+            times,
             place: Place::Begin,
         }
     }
@@ -136,7 +136,7 @@ impl<R: Input> Read for MeteredFeed<R> {
 
     fn read(&mut self, buffer: &mut [u8]) -> io::Result<usize> {
         let count = self.reader.read(buffer)?;
-        self.place = told(&self.teller, self.place, &buffer[..count]);
+        self.place = noted(self.times.as_ref(), self.place, &buffer[..count]);
         Ok(count)
     }
 }
@@ -146,7 +146,7 @@ impl<R: Input> Input for MeteredFeed<R> {
 
     fn read_input(&mut self, buffer: &mut [u8]) -> io::Result<usize> {
         let count = self.reader.read_input(buffer)?;
-        self.place = told(&self.teller, self.place, &buffer[..count]);
+        self.place = noted(self.times.as_ref(), self.place, &buffer[..count]);
         Ok(count)
     }
 }

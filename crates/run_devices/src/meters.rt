@@ -1,11 +1,12 @@
 //! What is counted of a run for its metrics, from any thread.
 
+use crate::feed_times::FeedTimes;
 use due_model::config::{Config, LaneId};
 use metrics_text::{CommandMetrics, Metrics};
 use notice_text::texts::lane_name;
 use std::alloc::{AllocError, Global};
+use std::sync::Arc;
 use std::sync::atomic::{AtomicU64, Ordering};
-use std::time::{Clock, Duration};
 
 /// What is counted of one command.
 #[derive(Drop)]
@@ -76,57 +77,26 @@ impl LaneMeter {
     }
 }
 
-/// When something was last, in full seconds of the machine's monotonic time.
-#[derive(Drop)]
-struct LastTime {
-    /// One more than that; 0 where it never was.
-    seconds: AtomicU64,
-}
-
-impl LastTime {
-    /// It never was.
-    fn new() -> LastTime {
-        LastTime {
-            seconds: AtomicU64::new(0),
-        }
-    }
-
-    /// It is now.
-    fn set(&self, now: u64) {
-        self.seconds.store(now.saturating_add(1), Ordering::SeqCst);
-    }
-
-    /// How many seconds ago it was, if it was.
-    fn age(&self, now: u64) -> Option<u64> {
-        match self.seconds.load(Ordering::SeqCst) {
-            0 => None,
-            seconds => Some(now.saturating_add(1).saturating_sub(seconds)),
-        }
-    }
-}
-
 /// What is counted of a run.
 #[derive(Drop)]
 pub(crate) struct Meters {
     rt: HostRuntime,
     lanes: Vec<LaneMeter>,
-    /// When a line of the feed came last, and when one of its clock.
-    line: LastTime,
-    clock: LastTime,
+    times: Arc<FeedTimes, Global>,
 }
 
 impl Meters {
-    /// Nothing is counted yet of these commands and of so many deciders. A refused growth is the only error.
+    /// Nothing is counted yet of these commands, of so many deciders and of a feed whose lines are noted there. A refused growth is the only error.
     pub(crate) fn new(
         rt: &HostRuntime,
         config: &Config,
         deciders: u8,
+        times: Arc<FeedTimes, Global>,
     ) -> Result<Meters, AllocError> {
         Ok(Meters {
             rt: *rt,
             lanes: lane_meters(rt.alloc(), config, deciders)?,
-            line: LastTime::new(),
-            clock: LastTime::new(),
+            times,
         })
     }
 
@@ -165,19 +135,10 @@ impl Meters {
         }
     }
 
-    /// Lines of the feed were read, and whether one of its clock is among them.
-    pub(crate) fn see(&self, has_clock: bool) {
-        let now = self.now();
-        self.line.set(now);
-        if has_clock {
-            self.clock.set(now);
-        }
-    }
-
     /// What is counted now, where so many events were decided. A refused growth is the only error.
     pub(crate) fn metrics(&self, events: u64) -> Result<Metrics, AllocError> {
         let alloc = self.rt.alloc();
-        let now = self.now();
+        let (feed_age, clock_age) = self.times.ages();
         let mut commands = Vec::with_capacity(alloc, self.lanes.len())?;
         for lane in self.lanes.as_slice() {
             commands.push(lane.metrics(alloc)?)?;
@@ -185,14 +146,9 @@ impl Meters {
         Ok(Metrics {
             events,
             commands,
-            feed_age: self.line.age(now),
-            clock_age: self.clock.age(now),
+            feed_age,
+            clock_age,
         })
-    }
-
-    /// The machine's monotonic time, in full seconds; 0 where it can't be read.
-    pub(crate) fn now(&self) -> u64 {
-        self.rt.monotonic().unwrap_or(Duration::ZERO).as_secs()
     }
 }
 

@@ -12,7 +12,7 @@ use crate::channels::{OpenedChannel, open_channels};
 use crate::counted::CountedChannel;
 use crate::fault::RunFault;
 use crate::horizon::ClockHorizon;
-use crate::run_metrics::metrics_at;
+use crate::run_metrics::{MetricsPlace, metrics_at};
 use crate::settings::RunSettings;
 use crate::teller::{Teller, teller_of};
 use crate::watched::Watched;
@@ -36,14 +36,14 @@ use text_lines::{AnyReader, Input};
 pub type SentChannel = CountedChannel<OpenedChannel>;
 
 /// What a run is asked.
-#[derive(Clone, Copy, Debug)]
+#[derive(Clone, Copy)]
 pub struct RunWords<'m, 'a> {
     /// The file with the object text.
     pub objects: &'m str,
     /// The channel words.
     pub channels: Option<&'m [&'a str]>,
-    /// The file that its metrics are written to, if they are.
-    pub metrics: Option<&'m str>,
+    /// Where its metrics are written to, if they are.
+    pub metrics: Option<MetricsPlace<'m>>,
 }
 
 /// What a run leaves that was done.
@@ -189,7 +189,6 @@ pub fn run_posts<C: Channel, T: Threads + Wait + Clock + Sync, R: Input + Drop, 
     let closers = Closers::new(alloc, config.lanes.len() as u8)?;
     let gate = watched.gate(settings.pause)?;
     let rt = *watched.rt;
-    let feed = watched.feed(feed)?;
     let teller = Arc::try_clone(&watched.teller)?;
     let mut watcher = watched.watcher;
     watcher.write_metrics(teller);

@@ -1,11 +1,13 @@
 //! The metrics of a run, and the file that they are written to.
 
+use crate::feed_times::FeedTimes;
 use crate::meters::Meters;
 use due_model::config::Config;
 use metrics_text::metrics_text;
-use std::alloc::AllocError;
+use std::alloc::{AllocError, Global};
 use std::fs::{self, OpenOptions};
 use std::io::{self, ErrorKind, Write};
+use std::sync::Arc;
 use std::sync::atomic::{AtomicBool, Ordering};
 
 /// What is counted of a run, and the file at whose path the text of that is put as a whole.
@@ -22,15 +24,22 @@ pub struct RunMetrics {
     is_over: AtomicBool,
 }
 
-/// The metrics of a run with this configuration and so many deciders, for the file at a path, if there is one. Nothing is written yet. A refused growth is
+/// The file that the metrics of a run are written to, and when the lines of its feed came.
+#[derive(Clone, Copy)]
+pub struct MetricsPlace<'m> {
+    pub path: &'m str,
+    pub times: &'m Arc<FeedTimes, Global>,
+}
+
+/// The metrics of a run with this configuration and so many deciders, for their place, if there is one. Nothing is written yet. A refused growth is
 /// the only error.
 pub fn metrics_at(
     rt: &HostRuntime,
     config: &Config,
     deciders: u8,
-    path: Option<&str>,
+    place: Option<MetricsPlace<'_>>,
 ) -> Result<Option<RunMetrics>, AllocError> {
-    let Some(path) = path else {
+    let Some(MetricsPlace { path, times }) = place else {
         return Ok(None);
     };
     let alloc = rt.alloc();
@@ -38,7 +47,7 @@ pub fn metrics_at(
     new_path.push_str(".tmp")?;
     Ok(Some(RunMetrics {
         rt: *rt,
-        meters: Meters::new(rt, config, deciders)?,
+        meters: Meters::new(rt, config, deciders, Arc::try_clone(times)?)?,
         path: String::from_str(alloc, path)?,
         new_path,
         was_failing: AtomicBool::new(false),

@@ -136,13 +136,6 @@ impl Teller {
         });
     }
 
-    /// Notes when lines of the feed were read, and whether one of its clock is among them.
-    pub(crate) fn saw_lines(&self, has_clock: bool) {
-        if let Some(metrics) = &self.metrics {
-            metrics.meters.see(has_clock);
-        }
-    }
-
     /// Writes the metrics, if there are any. Where their file can't be written, that is said once.
     pub(crate) fn write_metrics(&self) {
         if let Some(metrics) = &self.metrics {

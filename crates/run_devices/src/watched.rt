@@ -1,9 +1,6 @@
 //! What a run counts by, what says at once what fails, and who shows how far it is and writes its metrics.
 
-ghost use Rattle.std.specs.Prelude.{◌≡◌, IfOk};
-
 use crate::counted::CountingGate;
-use crate::metered_feed::MeteredFeed;
 use crate::run_log::RunLog;
 use crate::run_metrics::RunMetrics;
 use crate::teller::Teller;
@@ -12,7 +9,6 @@ use progress::Counts;
 use std::alloc::{AllocError, Global};
 use std::sync::Arc;
 use std::thread::Threads;
-use text_lines::Input;
 
 /// What watches a run. From when it is made a terminal at standard error shows what is counted.
 #[derive(Drop)]
@@ -45,13 +41,6 @@ impl<'r, T: Threads> Watched<'r, T> {
             teller: Arc::new(rt.alloc(), teller)?,
             watcher,
         })
-    }
-
-    /// A feed whose lines are noted for the metrics. A refused growth is the only error.
-    pub(crate) fn feed<R: Input + Drop>(&self, feed: R) -> Result<MeteredFeed<R>, AllocError>
-        ensures { IfOk result (λ metered. metered ≡ R.remaining feed) }
-    {
-        Ok(MeteredFeed::new(feed, Arc::try_clone(&self.teller)?))
     }
 
     /// A gate that counts there, and before the second try of a letter has so many seconds pass.

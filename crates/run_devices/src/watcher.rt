@@ -1,5 +1,6 @@
 //! Who shows how far a run is, and who writes its metrics.
 
+use crate::feed_times::now_of;
 use crate::teller::Teller;
 use progress::{Counts, Progress, ProgressLine, Watcher, show};
 use std::alloc::Global;
@@ -145,7 +146,7 @@ fn write_each(rt: &HostRuntime, teller: &Teller) {
         if metrics.is_over() {
             break;
         }
-        let now = metrics.meters.now();
+        let now = now_of(rt);
         if now >= next {
             teller.write_metrics();
             next = now.saturating_add(PERIOD);

@@ -3,7 +3,7 @@ use Rattle.std.proofs.lemmas.Result.{IfOk-at_ok}
 use Rattle.channel_words.specs.Lanes.{channels_for}
 use Rattle.engine.specs.Lanes.{count_of}
 use Rattle.run_command.specs.Report.{WritesReport}
-use Rattle.run_devices.proofs.PostLaws.{by_known, report_posted, same_posted}
+use Rattle.run_devices.proofs.PostLaws.{report_posted, same_posted}
 use Rattle.run_devices.proofs.run.run_posts.Goals as goal
 
 pub run-outcome-requires-clause-few : goal.run-outcome-requires-clause-few
@@ -15,12 +15,10 @@ returns g c =
     let posts = c.args.posts.items in
     let report = c.run-outcome.ensures.report in
     record {
-      report = by_known g.C.Channel.account g.C.Channel.offered (λ cs. cs.items) g.R.Input.can_fail (is_none c.args.settings.ahead) c.args.config.now c.args.zone.now c.args.settings.settings.tries posts c.run-outcome.result.1.items
-          c.in_ok-feed.feed (g.R.Read.remaining c.args.feed) (g.W.Write.contents c.args.writer.now) (g.W.Write.contents c.run-outcome.new.writer) _ c.in_ok-feed.ensures
-          (report_posted g.R.Input.can_fail (is_none c.args.settings.ahead) c.args.config.now c.args.zone.now (count_of (λ post. post.lane.0) posts) (channels_for (map (λ post. post.lane) posts)) _
-          c.in_ok-feed.feed (g.W.Write.contents c.args.writer.now) (g.W.Write.contents c.run-outcome.new.writer) _
+      report = report_posted g.R.Input.can_fail (is_none c.args.settings.ahead) c.args.config.now c.args.zone.now (count_of (λ post. post.lane.0) posts) (channels_for (map (λ post. post.lane) posts)) _
+          (g.R.Read.remaining c.args.feed) (g.W.Write.contents c.args.writer.now) (g.W.Write.contents c.run-outcome.new.writer) _
           (same_posted (λ post. post.lane) posts (map (λ post. post.lane) posts) refl)
           (IfOk-at_ok (λ ending. WritesReport g.R.Input.can_fail (is_none c.args.settings.ahead) c.args.config.now c.args.zone.now (count_of (λ post. post.lane.0) posts) _
-          c.in_ok-feed.feed ending (g.W.Write.contents c.args.writer.now) (g.W.Write.contents c.run-outcome.new.writer))
-          {r = c.run-outcome.result.0} (search rules) report));
+          (g.R.Read.remaining c.args.feed) ending (g.W.Write.contents c.args.writer.now) (g.W.Write.contents c.run-outcome.new.writer))
+          {r = c.run-outcome.result.0} (search rules) report);
     }
