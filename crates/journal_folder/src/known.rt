@@ -8,7 +8,7 @@ use due_model::config::{Config, LaneId};
 use due_model::notice::Notice;
 use journal_text::entry::Entry;
 use journal_text::journal::ReadJournal;
-use journal_text::reading::entry_of;
+use journal_text::reading::{entry_of, first_of};
 use std::alloc::{AllocError, Global};
 use text_lines::{Input, LineReader, NextLine};
 
@@ -28,7 +28,12 @@ pub fn read_known<R: Input + Drop>(
     let mut lines = LineReader::new(alloc, reader)?;
     for _line in 0..u64::MAX {
         match lines.next_line() {
-            NextLine::Line => add_known(&mut read, entry_of(config, lane, lines.line()))?,
+            NextLine::Line => {
+                if read.from.is_none() {
+                    read.from = first_of(config, lane, lines.line());
+                }
+                add_known(&mut read, entry_of(config, lane, lines.line()))?;
+            }
             NextLine::Long => {}
             NextLine::Over(_) => break,
         }
