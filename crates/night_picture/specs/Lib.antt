@@ -1,0 +1,5 @@
+pub mod Shapes
+pub mod Titles
+pub mod Rows
+pub mod Frame
+pub mod Picture
