@@ -5,7 +5,7 @@ use Rattle.due_model.specs.declared.notice.Notice.{Notice}
 use Rattle.journaled.specs.Claims.{IsHeld, is_settled}
 use Rattle.earlier_runs.specs.declared.compared.Change.{Change}
 use Rattle.earlier_runs.specs.declared.compared.Change.TheVariants as change
-use Rattle.earlier_runs.specs.declared.state.LaneState.{LaneState}
+use Rattle.earlier_runs.specs.declared.lane_state.LaneState.{LaneState}
 use Rattle.earlier_runs.specs.State.{past_in}
 
 -- ---- of one letter that is due

@@ -6,7 +6,7 @@ ghost use Rattle.due_model.specs.Accepted.{IsAccepted};
 ghost use Rattle.event_feed.specs.Feed.{Answer, AreGivenBy};
 ghost use Rattle.earlier_runs.specs.Compared.{AreLong, IsFirstLeft, IsShort, TellsChange};
 
-use crate::state::LaneState;
+use crate::lane_state::LaneState;
 use due_feed::{LookFault, Looker, look_through};
 use due_model::config::{Config, LaneId};
 use due_model::notice::Notice;
