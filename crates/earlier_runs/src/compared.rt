@@ -1,12 +1,12 @@
 //! What the feed makes due, against what the journals say was sent of it.
 
-ghost use Rattle.std.specs.Prelude.{◌≡◌, ◌≤◌, ◌-◌, ◌==◌, ℕ, [], map, IfNone, IfOk, IfSome, Some, if◌then◌else◌, length, slice_index_or};
+ghost use Rattle.std.specs.Prelude.{◌≡◌, ◌≤◌, ◌-◌, ◌==◌, ℕ, [], List, map, IfNone, IfOk, IfSome, Some, if◌then◌else◌, length, slice_index_or};
 ghost use Rattle.due_feed.specs.Seen.{due_of, past_of, unread};
 ghost use Rattle.due_model.specs.Accepted.{IsAccepted};
 ghost use Rattle.event_feed.specs.Feed.{Answer, AreGivenBy};
 ghost use Rattle.earlier_runs.specs.Compared.{AreLong, IsFirstLeft, IsShort, TellsChange};
 
-use crate::lane_state::LaneState;
+use crate::left::LaneState;
 use due_feed::{LookFault, Looker, look_through};
 use due_model::config::{Config, LaneId};
 use due_model::notice::Notice;

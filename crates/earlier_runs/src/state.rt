@@ -5,7 +5,7 @@ ghost use Rattle.std.specs.Arc.{arc_value};
 ghost use Rattle.journaled.specs.Runs.{since};
 ghost use Rattle.earlier_runs.specs.State.{IsOfJournals, IsState};
 
-use crate::lane_state::LaneState;
+use crate::left::LaneState;
 use due_model::config::{Config, LaneId};
 use due_model::notice::Notice;
 use journal_folder::lane_past::new_among;
