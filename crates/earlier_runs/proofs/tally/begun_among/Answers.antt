@@ -1,4 +1,4 @@
-use Rattle.std.proofs.Common.{◌≡◌, ◌∙◌, ◌+◌, ◌∷◌, ◌++◌, [], List, ap, cond, filter, get_or, sym, take}
+use Rattle.std.proofs.Common.{◌≡◌, ◌∙◌, ◌+◌, ◌∷◌, ◌++◌, [], List, ap, cond, filter, get_or, rules, sym, take}
 use Rattle.std.proofs.lemmas.List.Elements.{filter_more}
 use Rattle.due_model.specs.declared.notice.Notice.{Notice}
 use Rattle.earlier_runs.proofs.tally.begun_among.Goals as goal

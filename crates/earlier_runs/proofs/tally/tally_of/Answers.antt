@@ -17,6 +17,9 @@ returns-clause-tally c =
     let new : length c.in_ok-new.new.items ≡ length (filter (is_new c.args.past.now) c.args.taken.now) = ap length c.in_ok-new.ensures in
     record {
       claimed = omega (arith, both, new);
-      new = c.len-2.ensures ∙ new;
-      again = λ was_begun is. c.len-3.ensures ∙ ap length (c.in_ok-again.ensures was_begun is ∙ ap (filter was_begun) (c.deref.ensures.value ∙ c.in_ok-new.ensures));
+      new = omega (arith, new);
+      again = λ was_begun is.
+          let again : length c.in_ok-again.again.items ≡ length (filter was_begun (filter (is_new c.args.past.now) c.args.taken.now)) =
+          ap length (c.in_ok-again.ensures was_begun is ∙ ap (filter was_begun) (c.deref.ensures.value ∙ c.in_ok-new.ensures)) in
+          omega (arith, again);
     }
