@@ -9,8 +9,12 @@ returns-in-Some g c =
     let seen = c.in-Ok.ensures.seen in
     let short : IsShort c.args.states.now c.in-Ok.count c.in-Some.short = search rules in
     record {
-      change = (seen.given, seen.are, told_short _ _ _ _ _ _ (length (past_of seen.given)) _ c.in-Some.short seen.saw_all
-          (subst (λ n. IsShort c.args.states.now n c.in-Some.short) seen.count_is short));
+      change = (
+        seen.given,
+        seen.are,
+        told_short _ _ _ _ _ _ (length (past_of seen.given)) _ c.in-Some.short seen.saw_all
+            (subst (λ n. IsShort c.args.states.now n c.in-Some.short) seen.count_is short),
+      );
     }
 
 pub returns-in-Ok : goal.returns-in-Ok
@@ -18,9 +22,13 @@ returns-in-Ok g c =
     let seen = c.in-Ok.ensures.seen in
     let long : AreLong c.args.states.now c.in-Ok.count = search rules in
     record {
-      change = (seen.given, seen.are, told_left _ _ _ _ _ _ (length (past_of seen.given)) _ c.first_left.result c.in_ok-left.ensures seen.saw_all
-          (subst (λ n. AreLong c.args.states.now n) seen.count_is long)
-          (subst (λ xs. IsFirstLeft xs c.first_left.result) c.deref.ensures.value c.first_left.ensures));
+      change = (
+        seen.given,
+        seen.are,
+        told_left _ _ _ _ _ _ (length (past_of seen.given)) _ c.first_left.result c.in_ok-left.ensures seen.saw_all
+            (subst (λ n. AreLong c.args.states.now n) seen.count_is long)
+            (subst (λ xs. IsFirstLeft xs c.first_left.result) c.deref.ensures.value c.first_left.ensures),
+      );
     }
 
 pub returns-in-Err-Stopped : goal.returns-in-Err-Stopped
