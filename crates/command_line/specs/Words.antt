@@ -115,6 +115,7 @@ pub record IsWhoOf (options : Found) (asked : WhoWords) : Type 0 where
   pub lasting : Some asked.lasting.now ≡ first_value options (codes "for")
   pub down : option_map (λ words. map (λ word. word.now) words.now) asked.down
       ≡ option_map raw_values (matched_of options (codes "down"))
+  pub json : IsFlag options (codes "json") asked.json
 
 -- They suppose nothing: they lack the object, its state or how long it lasts.
 abbrev pub LacksSupposed : Found → Type 0
@@ -334,12 +335,14 @@ one_word name = record (new_rule name) {
   value_names = 1;
 }
 
--- five say what is supposed: from when on, for how long, which hosts are down, an object and its state
+-- five say what is supposed: from when on, for how long, which hosts are down, an object and its state; and one that each line is to
+-- be JSON
 abbrev pub with_supposed : App → App
 with_supposed app =
-    with_rule (with_rule (with_rule (with_rule (with_rule app
+    with_rule (with_rule (with_rule (with_rule (with_rule (with_rule app
     (text_option (codes "at"))) length_option)
-    (text_options (codes "down"))) (one_word (codes "object"))) (one_word (codes "state"))
+    (text_options (codes "down"))) (flag_option (codes "json")))
+    (one_word (codes "object"))) (one_word (codes "state"))
 
 -- `who` has these, and the file of the object text, which must be given
 abbrev pub who_words : App

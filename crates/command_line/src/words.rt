@@ -89,6 +89,8 @@ pub struct WhoWords<'m, 'a> {
     pub lasting: &'a str,
     /// The hosts that are down all the while, if there are some.
     pub down: Option<&'m [&'a str]>,
+    /// Whether each line is to be an object of JSON.
+    pub json: bool,
 }
 
 /// How long a run waits for its channels.

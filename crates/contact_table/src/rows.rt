@@ -2,12 +2,13 @@
 
 ghost use Rattle.std.specs.Prelude.{◌≡◌, ◌++◌, decimal, OnOk};
 ghost use Rattle.contact_table.specs.Rows.{json_numbers, json_row, pair_text, plain_numbers};
-ghost use Rattle.contact_table.specs.Rows.{plain_row, row_text};
+ghost use Rattle.contact_table.specs.Rows.{plain_row, pretty_numbers, pretty_row, row_text};
 
 use changed_notices::ChangeForm;
 use contact_tallies::Tally;
 use itoa::Buffer;
 use line_forms::push_string;
+use pretty_lines::push_padded;
 use std::alloc::AllocError;
 
 /// Adds a number in decimal digits.
@@ -108,6 +109,32 @@ fn push_json_row(
     text.extend_from_slice(b"}\n")
 }
 
+/// Adds the numbers of a line for people, and its end.
+#[tactic(auto, unfolding(crate::specs::Rows::pretty_numbers))]
+fn push_pretty_numbers(text: &mut Vec<u8>, before: &Tally, after: &Tally) -> Result<(), AllocError>
+    ensures { OnOk result (text.new.items ≡ text.old.items ++ pretty_numbers before.now after.now) }
+{
+    push_pair(text, b"  pages ", before.pages, b" to ", after.pages)?;
+    push_pair(text, b", at night ", before.at_night, b" to ", after.at_night)?;
+    push_pair(text, b", longest silence ", before.silence, b" s to ", after.silence)?;
+    text.extend_from_slice(b" s\n")
+}
+
+/// Adds a line for people.
+#[tactic(auto, unfolding(crate::specs::Rows::pretty_row))]
+fn push_pretty_row(
+    text: &mut Vec<u8>,
+    name: &[u8],
+    before: &Tally,
+    after: &Tally,
+) -> Result<(), AllocError>
+    ensures { OnOk result
+        (text.new.items ≡ text.old.items ++ pretty_row name.now before.now after.now) }
+{
+    push_padded(text, name, 12)?;
+    push_pretty_numbers(text, before, after)
+}
+
 /// Adds a line of the table in a form.
 pub(crate) fn push_row(
     form: ChangeForm,
@@ -121,6 +148,7 @@ pub(crate) fn push_row(
 {
     match form {
         ChangeForm::Plain => push_plain_row(text, name, before, after),
+        ChangeForm::Pretty(_) => push_pretty_row(text, name, before, after),
         ChangeForm::Json => push_json_row(text, name, before, after),
     }
 }

@@ -1,7 +1,7 @@
 use Rattle.std.proofs.Common.{◌≡◌, ◌++◌, flat_map}
 use Rattle.std.specs.List.{range_with_len}
-use Rattle.why_told.specs.Values.{passed_at}
-use Rattle.why_told.proofs.values.push_first_passed.Given as goal
+use Rattle.filter_values.specs.Values.{passed_at}
+use Rattle.filter_values.proofs.values.push_first_passed.Given as goal
 
 abbrev pub invariant-loop-place : goal.invariant-loop-place
 invariant-loop-place l =

@@ -3,9 +3,9 @@
 ghost use Rattle.std.specs.Prelude.{◌≡◌, ◌++◌, decimal, flat_map, is_some, OnOk};
 ghost use Rattle.std.specs.List.{range_with_len};
 ghost use Rattle.due_model.specs.Due.{rights_for};
-ghost use Rattle.why_told.specs.Values.{contact_filter_text, contact_value, filter_at, filter_text};
-ghost use Rattle.why_told.specs.Values.{host_letters, letter_text, letters_text, other_letters, passed_at, passed_text, period_name, period_text, service_letters};
-ghost use Rattle.why_told.specs.Values.{object_value, place_of, right_of, value_of};
+ghost use Rattle.filter_values.specs.Values.{contact_filter_text, contact_value, filter_at, filter_text};
+ghost use Rattle.filter_values.specs.Values.{host_letters, letter_text, letters_text, other_letters, passed_at, passed_text, period_name, period_text, service_letters};
+ghost use Rattle.filter_values.specs.Values.{object_value, place_of, right_of, value_of};
 
 use due_model::config::{Config, Contact, ContactId, Object, ObjectId, PeriodId, Rights};
 use due_model::notice::Filter;
@@ -15,7 +15,7 @@ use notice_text::names::filter_name;
 use std::alloc::AllocError;
 
 /// How many filters of an object are tried before this one; before those of a contact all of them are.
-pub(crate) fn place_of(filter: Filter) -> usize
+pub fn place_of(filter: Filter) -> usize
     ensures { result ≡ place_of filter }
 {
     match filter {
@@ -37,7 +37,7 @@ pub(crate) fn place_of(filter: Filter) -> usize
 }
 
 /// The filter of an object at a place.
-fn filter_at(place: usize) -> Filter
+pub(crate) fn filter_at(place: usize) -> Filter
     ensures { result ≡ filter_at place }
 {
     if place == 0 {
@@ -65,8 +65,8 @@ fn filter_at(place: usize) -> Filter
     }
 }
 
-/// Adds a number in decimal digits.
-pub(crate) fn push_decimal(text: &mut Vec<u8>, number: u64) -> Result<(), AllocError>
+/// Adds a number in decimal digits. A refused growth is the only error.
+pub fn push_decimal(text: &mut Vec<u8>, number: u64) -> Result<(), AllocError>
     ensures { OnOk result (text.new.items ≡ text.old.items ++ decimal number) }
 {
     let mut buffer = Buffer::new();
@@ -218,7 +218,7 @@ fn push_object_value(
 
 /// Adds a filter of an object, with its value.
 #[tactic(auto, unfolding(crate::specs::Values::filter_text))]
-fn push_filter(
+pub(crate) fn push_filter(
     text: &mut Vec<u8>,
     config: &Config,
     object: ObjectId,
@@ -231,8 +231,8 @@ fn push_filter(
     push_object_value(text, config, object, filter)
 }
 
-/// The same after a text.
-pub(crate) fn push_filter_after(
+/// The same after a text. A refused growth is the only error.
+pub fn push_filter_after(
     text: &mut Vec<u8>,
     front: &[u8],
     config: &Config,
@@ -303,8 +303,8 @@ fn push_contact_value(
     }
 }
 
-/// Adds a filter of a contact, with its value.
-pub(crate) fn push_contact_filter(
+/// Adds a filter of a contact, with its value for such an object. A refused growth is the only error.
+pub fn push_contact_filter(
     text: &mut Vec<u8>,
     config: &Config,
     object: ObjectId,
@@ -351,8 +351,8 @@ fn push_first_passed(
     Ok(())
 }
 
-/// Adds those that passed: the first ones, so many.
-pub(crate) fn push_passed(
+/// Adds those that passed as a line of text: the first ones, so many; nothing, where none did. A refused growth is the only error.
+pub fn push_passed(
     text: &mut Vec<u8>,
     config: &Config,
     object: ObjectId,

@@ -1,8 +1,8 @@
 use Rattle.std.proofs.Common.{◌++◌, ℕ, List, ap, append_assoc, flat_map, sym, ◌∙◌}
 use Rattle.std.specs.List.{range_with_len}
 use Rattle.lemmas.proofs.Numbers.{flat_range_more}
-use Rattle.why_told.specs.Values.{passed_at}
-use Rattle.why_told.proofs.values.push_first_passed.Goals as goal
+use Rattle.filter_values.specs.Values.{passed_at}
+use Rattle.filter_values.proofs.values.push_first_passed.Goals as goal
 
 pub loop-place-preserved : goal.loop-place-preserved
 loop-place-preserved c =

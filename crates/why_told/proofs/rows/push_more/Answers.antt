@@ -1,8 +1,8 @@
 use Rattle.std.proofs.Common.{codes, decimal}
 use Rattle.local_text.specs.Text.{local_text}
-use Rattle.why_told.specs.Why.{more_row}
+use Rattle.why_told.specs.Rows.{more_row}
 use Rattle.why_told.proofs.TextLaws.{five_parts}
-use Rattle.why_told.proofs.text.push_more.Goals as goal
+use Rattle.why_told.proofs.rows.push_more.Goals as goal
 
 pub returns : goal.returns
 unfolding more_row
