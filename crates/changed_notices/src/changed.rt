@@ -51,11 +51,7 @@ fn push_signed(text: &mut Vec<u8>, front: &[u8], sign: u8, rest: &[u8]) -> Resul
 fn sign_colour(sign: u8) -> &'static [u8]
     ensures { result.now ≡ sign_colour sign }
 {
-    if sign == b'-' {
-        b"31"
-    } else {
-        b"32"
-    }
+    if sign == b'-' { b"31" } else { b"32" }
 }
 
 /// Adds a sign and a blank, with the sign's colour.

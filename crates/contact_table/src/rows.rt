@@ -115,8 +115,20 @@ fn push_pretty_numbers(text: &mut Vec<u8>, before: &Tally, after: &Tally) -> Res
     ensures { OnOk result (text.new.items ≡ text.old.items ++ pretty_numbers before.now after.now) }
 {
     push_pair(text, b"  pages ", before.pages, b" to ", after.pages)?;
-    push_pair(text, b", at night ", before.at_night, b" to ", after.at_night)?;
-    push_pair(text, b", longest silence ", before.silence, b" s to ", after.silence)?;
+    push_pair(
+        text,
+        b", at night ",
+        before.at_night,
+        b" to ",
+        after.at_night,
+    )?;
+    push_pair(
+        text,
+        b", longest silence ",
+        before.silence,
+        b" s to ",
+        after.silence,
+    )?;
     text.extend_from_slice(b" s\n")
 }
 

@@ -113,6 +113,25 @@ contact_value c o k filter =
 abbrev pub contact_filter_text : Config → (o k : ℕ) → Filter → List ℕ
 contact_filter_text c o k filter = filter_name filter ++ contact_value c o k filter
 
+-- ---- the periods that filters go by
+
+-- of the object; none of filters that go by none
+abbrev pub period_of : Config → (o : ℕ) → Filter → Option PeriodId
+period_of c o Period = option_map_or (λ object. object.period) (slice_get c.objects o) None
+period_of c o filter = None
+
+-- in which a contact is notified, for such an object
+abbrev pub right_period : Config → (o k : ℕ) → Option PeriodId
+right_period c o k =
+    option_map_or
+    (λ object.
+    option_map_or (λ contact. (rights_for object contact).period) (slice_get c.contacts k) None)
+    (slice_get c.objects o) None
+
+abbrev pub contact_period_of : Config → (o k : ℕ) → Filter → Option PeriodId
+contact_period_of c o k ContactPeriod = right_period c o k
+contact_period_of c o k filter = None
+
 -- ---- those that passed
 
 -- the filter at a place, after a comma where it isn't the first

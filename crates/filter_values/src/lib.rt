@@ -5,4 +5,7 @@ mod tried;
 mod values;
 
 pub use tried::push_tried;
-pub use values::{place_of, push_contact_filter, push_decimal, push_filter_after, push_passed};
+pub use values::{
+    contact_period_of, period_of, place_of, push_contact_filter, push_decimal, push_filter_after,
+    push_passed,
+};

@@ -1,7 +1,6 @@
 //! The filters that were tried of an attempt, as an object of JSON.
 
-ghost use Rattle.std.specs.Prelude.{◌≡◌, ◌++◌, decimal, flat_map, OnOk};
-ghost use Rattle.std.specs.List.{range_with_len};
+ghost use Rattle.std.specs.Prelude.{◌≡◌, ◌++◌, OnOk};
 ghost use Rattle.line_forms.specs.Json.{string_json};
 ghost use Rattle.filter_values.specs.Tried.{first_json, passed_json, passed_json_at, stopped_json, tried_json};
 ghost use Rattle.filter_values.specs.Values.{filter_text};

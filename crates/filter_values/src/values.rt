@@ -5,7 +5,8 @@ ghost use Rattle.std.specs.List.{range_with_len};
 ghost use Rattle.due_model.specs.Due.{rights_for};
 ghost use Rattle.filter_values.specs.Values.{contact_filter_text, contact_value, filter_at, filter_text};
 ghost use Rattle.filter_values.specs.Values.{host_letters, letter_text, letters_text, other_letters, passed_at, passed_text, period_name, period_text, service_letters};
-ghost use Rattle.filter_values.specs.Values.{object_value, place_of, right_of, value_of};
+ghost use Rattle.filter_values.specs.Values.{contact_period_of, object_value, period_of, place_of, right_of, right_period};
+ghost use Rattle.filter_values.specs.Values.{value_of};
 
 use due_model::config::{Config, Contact, ContactId, Object, ObjectId, PeriodId, Rights};
 use due_model::notice::Filter;
@@ -316,6 +317,47 @@ pub fn push_contact_filter(
 {
     text.extend_from_slice(filter_name(filter).as_bytes())?;
     push_contact_value(text, config, object, contact, filter)
+}
+
+/// The period that a filter of an object goes by; none of those that go by none.
+pub fn period_of(config: &Config, object: ObjectId, filter: Filter) -> Option<PeriodId>
+    ensures { result ≡ period_of config.now object.0 filter }
+{
+    match filter {
+        Filter::Period => match config.objects.as_slice().get(usize::from(object.0)) {
+            Some(object) => object.period,
+            None => None,
+        },
+        _ => None,
+    }
+}
+
+/// The period in which a contact is notified, for such an object.
+fn right_period(config: &Config, object: ObjectId, contact: ContactId) -> Option<PeriodId>
+    ensures { result ≡ right_period config.now object.0 contact.0 }
+{
+    let Some(object) = config.objects.as_slice().get(usize::from(object.0)) else {
+        return None;
+    };
+    match config.contacts.as_slice().get(usize::from(contact.0)) {
+        Some(contact) => rights_for(object, contact).period,
+        None => None,
+    }
+}
+
+/// The period that a filter of a contact goes by, for such an object; none of those that go by none.
+pub fn contact_period_of(
+    config: &Config,
+    object: ObjectId,
+    contact: ContactId,
+    filter: Filter,
+) -> Option<PeriodId>
+    ensures { result ≡ contact_period_of config.now object.0 contact.0 filter }
+{
+    match filter {
+        Filter::ContactPeriod => right_period(config, object, contact),
+        _ => None,
+    }
 }
 
 /// Adds the filter of an object at a place, after a comma where it isn't the first.

@@ -138,11 +138,7 @@ pub fn widths_in(
 }
 
 /// Adds what begins a colour, given by its number for a terminal, where there are colours. A refused growth is the only error.
-pub fn push_paint(
-    text: &mut Vec<u8>,
-    coloured: bool,
-    colour: &[u8],
-) -> Result<(), AllocError>
+pub fn push_paint(text: &mut Vec<u8>, coloured: bool, colour: &[u8]) -> Result<(), AllocError>
     ensures { OnOk result (text.new.items ≡ text.old.items ++ paint coloured colour.now) }
 {
     if !coloured {

@@ -1,6 +1,6 @@
 //! How rows are written.
 
-ghost use Rattle.std.specs.Prelude.{◌≡◌, ◌-◌, ◌++◌, length, take, OnOk};
+ghost use Rattle.std.specs.Prelude.{◌≡◌, ◌++◌, OnOk};
 ghost use Rattle.who_missed.specs.Forms.{is_coloured, is_json, reason_json, row_end, trimmed};
 
 use line_forms::push_string;
@@ -65,11 +65,7 @@ fn trimmed(reason: &[u8]) -> &[u8]
 
 /// Adds how the object of JSON begins of a contact that isn't told: its name, and why not. A refused growth is the only error.
 #[tactic(auto, unfolding(crate::specs::Forms::reason_json))]
-pub fn push_reason_json(
-    text: &mut Vec<u8>,
-    contact: &[u8],
-    reason: &[u8],
-) -> Result<(), AllocError>
+pub fn push_reason_json(text: &mut Vec<u8>, contact: &[u8], reason: &[u8]) -> Result<(), AllocError>
     ensures { OnOk result (text.new.items ≡ text.old.items ++ reason_json contact.now reason.now) }
 {
     text.extend_from_slice(b"{\"letter\":\"M\",\"contact\":")?;

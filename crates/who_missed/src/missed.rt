@@ -184,11 +184,7 @@ fn push_number(text: &mut Vec<u8>, number: u64) -> Result<(), AllocError>
 
 /// Adds when it is told, as members of an object of JSON.
 #[tactic(auto, unfolding(crate::specs::Missed::told_json))]
-fn push_told_json(
-    text: &mut Vec<u8>,
-    clock: &ZoneClock<'_>,
-    moment: u64,
-) -> Result<(), AllocError>
+fn push_told_json(text: &mut Vec<u8>, clock: &ZoneClock<'_>, moment: u64) -> Result<(), AllocError>
     ensures { OnOk result (text.new.items ≡ text.old.items ++ told_json clock.now moment) }
 {
     text.extend_from_slice(b",\"moment\":")?;
@@ -220,9 +216,7 @@ fn push_later_json(
             push_told_json(text, clock, notice.moment)?;
             push_number_end(text, notice.number)
         }
-        _ => text.extend_from_slice(
-            b",\"moment\":null,\"local\":null,\"number\":null}\n",
-        ),
+        _ => text.extend_from_slice(b",\"moment\":null,\"local\":null,\"number\":null}\n"),
     }
 }
 

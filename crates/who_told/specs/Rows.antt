@@ -63,9 +63,12 @@ abbrev pub row_text : RowForm → Look → Config → Zone → ReportLine → Li
 row_text form look c zone line = if has_row line then form_row form look c zone line else []
 
 -- what stands there where there is no row; as JSON nothing
+abbrev pub nobody_row : RowForm → List ℕ
+nobody_row form = if is_json form then [] else codes "nobody is told\n"
+
 abbrev pub nobody_text : RowForm → (has_rows : Bool) → List ℕ
 nobody_text form true = []
-nobody_text form false = if is_json form then [] else codes "nobody is told" ++ 10 ∷ []
+nobody_text form false = nobody_row form
 
 -- lines of a report as rows, in order
 abbrev pub rows_text : RowForm → Config → Zone → List ReportLine → List ℕ

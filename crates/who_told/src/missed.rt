@@ -67,12 +67,7 @@ pub struct Missed<'a> {
 
 impl<'a> Missed<'a> {
     /// One that was told no line yet.
-    pub(crate) fn new(
-        form: Form,
-        host: &'a str,
-        service: Option<&'a str>,
-        until: u64,
-    ) -> Missed<'a>
+    pub(crate) fn new(form: Form, host: &'a str, service: Option<&'a str>, until: u64) -> Missed<'a>
         ensures host { result.host.now ≡ host.now }
         ensures service { result.service ≡ service.entry }
         ensures until { result.until ≡ until }

@@ -1,7 +1,7 @@
 //! The teller that writes a row for each notice.
 
 ghost use Rattle.std.specs.Prelude.{◌≡◌, ◌++◌, false, IfOk, OnOk};
-ghost use Rattle.who_told.specs.Rows.{form_row, has_row, look_of, notice_row, plain_row, row_text, when_text, whom_text};
+ghost use Rattle.who_told.specs.Rows.{form_row, has_row, look_of, nobody_row, notice_row, plain_row, row_text, when_text, whom_text};
 
 use due_model::config::Config;
 use due_model::notice::Notice;
@@ -92,11 +92,21 @@ impl Teller for Rows {
         _clock: &ZoneClock<'_>,
         text: &mut Vec<u8>,
     ) -> Result<(), AllocError> {
-        if self.has_rows || is_json(self.form) {
+        if self.has_rows {
             return Ok(());
         }
-        text.extend_from_slice(b"nobody is told\n")
+        push_nobody(text, self.form)
     }
+}
+
+/// Adds that nobody is told; as JSON nothing.
+fn push_nobody(text: &mut Vec<u8>, form: RowForm) -> Result<(), AllocError>
+    ensures { OnOk result (text.new.items ≡ text.old.items ++ nobody_row form) }
+{
+    if is_json(form) {
+        return Ok(());
+    }
+    text.extend_from_slice(b"nobody is told\n")
 }
 
 /// Whether a line of the report has a row.

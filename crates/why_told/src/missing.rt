@@ -17,8 +17,10 @@ use messages::entries::Entry;
 use notice_text::texts::contact_name;
 use pretty_lines::push_paint;
 use std::alloc::{AllocError, Global};
-use who_missed::{has_command, is_coloured, is_json, is_named, push_escalations, push_reason_json};
-use who_missed::{push_row_end, refuses, tells};
+use who_missed::{
+    has_command, is_coloured, is_json, is_named, push_escalations, push_reason_json, push_row_end,
+    refuses, tells,
+};
 
 /// How many numbers of contacts there may be.
 const CONTACTS: u32 = 65_536;
@@ -126,7 +128,14 @@ fn push_missing_form(
     if is_json(asked.form) {
         push_missing_json(alloc, text, config, object, event, contact, lines)
     } else {
-        push_missing_text(text, is_coloured(asked.form), config, object, contact, lines)
+        push_missing_text(
+            text,
+            is_coloured(asked.form),
+            config,
+            object,
+            contact,
+            lines,
+        )
     }
 }
 

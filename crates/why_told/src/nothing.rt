@@ -40,11 +40,7 @@ fn push_to(text: &mut Vec<u8>, clock: &ZoneClock<'_>, moment: u64) -> Result<(),
 
 /// Adds of what there was no attempt.
 #[tactic(auto, unfolding(crate::specs::Nothing::nothing_front))]
-fn push_front(
-    text: &mut Vec<u8>,
-    clock: &ZoneClock<'_>,
-    asked: Asked<'_>,
-) -> Result<(), AllocError>
+fn push_front(text: &mut Vec<u8>, clock: &ZoneClock<'_>, asked: Asked<'_>) -> Result<(), AllocError>
     ensures { OnOk result (text.new.items ≡ text.old.items ++ nothing_front asked.entry clock.now) }
 {
     text.extend_from_slice(b"no attempt on ")?;

@@ -147,7 +147,8 @@ impl Teller for Reasons<'_> {
     ) -> Result<(), AllocError> {
         let (alloc, asked) = (self.alloc, self.asked);
         if !is_of(alloc, asked, config, line)? {
-            return self.pass_over(config, line);
+            self.pass_over(config, line)?;
+            return Ok(());
         }
         push_line(alloc, text, config, clock, asked, &self.current, line)?;
         self.current.go_on(line)
@@ -160,6 +161,14 @@ impl Teller for Reasons<'_> {
         text: &mut Vec<u8>,
     ) -> Result<(), AllocError> {
         let (alloc, asked) = (self.alloc, self.asked);
-        push_ending(alloc, text, config, clock, asked, self.before, &self.current)
+        push_ending(
+            alloc,
+            text,
+            config,
+            clock,
+            asked,
+            self.before,
+            &self.current,
+        )
     }
 }

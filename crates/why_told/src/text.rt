@@ -157,7 +157,15 @@ fn push_stop_json(
         (text.new.items ≡ text.old.items ++ stop_json config.now clock.now stop.now) }
 {
     let (object, place) = (stop.object, place_of(stop.filter));
-    push_tried(alloc, text, config, stop.event, object, place, Some(stop.filter))?;
+    push_tried(
+        alloc,
+        text,
+        config,
+        stop.event,
+        object,
+        place,
+        Some(stop.filter),
+    )?;
     let line = ReportLine::Decided(Entry::Withheld(*stop));
     push_json(alloc, text, config, clock, &line)
 }
