@@ -22,9 +22,9 @@ _notify_run() {
         replay) words="--objects --only --object --contact --json --pretty --zone --zone-file -h --help" ;;
         trace) words="--deciders --standbys --queue --tries --zone --zone-file -h --help" ;;
         run) words="--objects --deciders --queue --tries --timeout --pause --ahead --log --fold --quiet --feed --follow --clock --zone --zone-file -h --help" ;;
-        who) words="--objects --at --for --down --zone --zone-file -h --help" ;;
+        who) words="--objects --at --for --down --json --zone --zone-file -h --help" ;;
         diff) words="--objects --with --json --zone --zone-file -h --help" ;;
-        why) words="--objects --object --contact --from --to --zone --zone-file -h --help" ;;
+        why) words="--objects --object --contact --from --to --json --zone --zone-file -h --help" ;;
     esac
     mapfile -t COMPREPLY < <(compgen -W "$words" -- "$word")
 }

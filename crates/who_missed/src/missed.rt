@@ -36,7 +36,8 @@ pub fn push_missed(
     lines: &[ReportLine],
 ) -> Result<(), AllocError>
     ensures { OnOk result (text.new.items ≡ text.old.items
-        ++ missed_text form.form config.now clock.now host.now (option_copied service.entry) until lines.now) }
+        ++ missed_text form.form config.now clock.now host.now (option_copied service.entry) until
+        lines.now) }
 {
     let service = match service {
         Some(service) => Some(service.as_bytes()),

@@ -66,12 +66,12 @@ report_told : (rows : Rows) (form : RowForm) (c : Config) (zone : Zone) (given :
 report_told rows form c zone given f l none =
     let lines = report_lines c zone given in
     let last = after_all (rows_at c zone) rows lines in
-    let any = list_any has_row lines in
+    let seen = list_any has_row lines in
     ap (λ (text : List ℕ). text ++ nobody_text last.form last.has_rows) (all_told rows c zone lines)
-    ∙ ap (λ (b : Bool). flat_map (row_text rows.form rows.look c zone) lines ++ nobody_text last.form b) (all_seen rows c zone lines ∙ ap (λ (b : Bool). b || any) none)
-    ∙ ap (λ (x : RowForm). flat_map (row_text rows.form rows.look c zone) lines ++ nobody_text x any) (same_form rows c zone lines ∙ f)
-    ∙ ap (λ (x : RowForm). flat_map (row_text x rows.look c zone) lines ++ nobody_text form any) f
-    ∙ ap (λ (x : Look). flat_map (row_text form x c zone) lines ++ nobody_text form any) l
+    ∙ ap (λ (b : Bool). flat_map (row_text rows.form rows.look c zone) lines ++ nobody_text last.form b) (all_seen rows c zone lines ∙ ap (λ (b : Bool). b || seen) none)
+    ∙ ap (λ (x : RowForm). flat_map (row_text rows.form rows.look c zone) lines ++ nobody_text x seen) (same_form rows c zone lines ∙ f)
+    ∙ ap (λ (x : RowForm). flat_map (row_text x rows.look c zone) lines ++ nobody_text form seen) f
+    ∙ ap (λ (x : Look). flat_map (row_text form x c zone) lines ++ nobody_text form seen) l
 
 module _ (s : Supposed) (rows : Rows) (feed : List ℕ) (is : feed ≡ supposed_feed s) (form : RowForm) (c : Config) (zone : Zone) (f : rows.form ≡ form) (l : rows.look ≡ look_of form c)
     (none : rows.has_rows ≡ false) (old new : Option (List ℕ)) where
