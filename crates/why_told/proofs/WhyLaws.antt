@@ -1,10 +1,12 @@
 -- From what is told of a report to what is written of an object's attempts.
-use Rattle.std.proofs.Common.{◌≡◌, ℕ, Bool, true, false, cond, not, ◌&&◌, List, [], ◌∷◌, ◌++◌, filter, Option, None, Some, IfSome, refl, sym, ap, subst, ◌∙◌, append_assoc}
+use Rattle.std.proofs.Common.{◌≡◌, ℕ, Bool, true, false, cond, not, ◌&&◌, List, [], ◌∷◌, ◌++◌, filter, Option, None, Some, IfSome, inl, refl, sym, ap, subst, ◌∙◌, append_assoc}
 use Rattle.due_model.specs.declared.config.Config.{Config}
 use Rattle.due_model.specs.declared.zone.Zone.{Zone}
-use Rattle.event_feed.specs.Feed.{Answer}
+use Rattle.event_feed.specs.Feed.{Answer, answers}
+use Rattle.text_lines.specs.Lines.{pieces}
 use Rattle.command_output.specs.declared.outcome.Ending.{Ending}
 use Rattle.written.specs.Written.{Writes, WritesFront}
+use Rattle.written.specs.WrittenLaws.{front_none}
 use Rattle.line_forms.specs.declared.report_line.ReportLine.{ReportLine}
 use Rattle.report_telling.specs.Lines.{report_lines}
 use Rattle.report_telling.specs.Tells as tells
@@ -21,7 +23,7 @@ use Rattle.why_told.specs.Why.{line_text}
 abbrev pub form_at : Config → Zone → Form Reasons
 form_at c zone =
     form_of (λ reasons config z line. told_line reasons config z line) (λ reasons config z line. after_told reasons config line)
-    (λ reasons config z. ended_text reasons config z) c zone
+    (λ reasons config z. ended_text reasons z) c zone
 
 -- the teller after a line that is asked for, and after one of the object before the span
 abbrev taken : Reasons → ReportLine → Reasons
@@ -33,7 +35,7 @@ noted reasons line = record reasons { before = Some line }
 -- what it writes from here on
 abbrev from_here : Reasons → Config → Zone → List ReportLine → List ℕ
 from_here reasons c zone lines =
-    why_from reasons.asked c zone (last_of reasons.before (filter (is_earlier reasons.asked c) lines)) reasons.current (filter (is_of reasons.asked c) lines)
+    why_from reasons.asked reasons.periods zone (last_of reasons.before (filter (is_earlier reasons.asked c) lines)) reasons.current (filter (is_of reasons.asked c) lines)
 
 -- one line, and those after it
 one_more : (reasons : Reasons) (c : Config) (zone : Zone) (line : ReportLine) (lines : List ReportLine)
@@ -41,11 +43,11 @@ one_more : (reasons : Reasons) (c : Config) (zone : Zone) (line : ReportLine) (l
     → told_report (form_at c zone) (noted reasons line) lines ≡ from_here (noted reasons line) c zone lines
     → told_report (form_at c zone) reasons lines ≡ from_here reasons c zone lines
     → (b d : Bool)
-    → cond b (line_text reasons.asked c zone reasons.current line) [] ++ told_report (form_at c zone) (cond b (taken reasons line) (cond d (noted reasons line) reasons)) lines
-    ≡ why_from reasons.asked c zone
+    → cond b (line_text reasons.asked reasons.periods zone reasons.current line) [] ++ told_report (form_at c zone) (cond b (taken reasons line) (cond d (noted reasons line) reasons)) lines
+    ≡ why_from reasons.asked reasons.periods zone
     (last_of reasons.before (cond (not b && d) (line ∷ filter (is_earlier reasons.asked c) lines) (filter (is_earlier reasons.asked c) lines)))
     reasons.current (cond b (line ∷ filter (is_of reasons.asked c) lines) (filter (is_of reasons.asked c) lines))
-one_more reasons c zone line lines on early same true d = ap (λ (text : List ℕ). line_text reasons.asked c zone reasons.current line ++ text) on
+one_more reasons c zone line lines on early same true d = ap (λ (text : List ℕ). line_text reasons.asked reasons.periods zone reasons.current line ++ text) on
 one_more reasons c zone line lines on early same false true = early
 one_more reasons c zone line lines on early same false false = same
 
@@ -56,27 +58,35 @@ told_from reasons c zone (line ∷ lines) =
     ∙ one_more reasons c zone line lines (told_from (taken reasons line) c zone lines) (told_from (noted reasons line) c zone lines) (told_from reasons c zone lines)
     (is_of reasons.asked c line) (is_early reasons.asked c line)
 
-module _ (reasons : Reasons) (asked : Asked) (p : reasons.asked ≡ asked) (r : reasons.before ≡ None) (q : reasons.current ≡ nothing_open) where
-  report_told : (c : Config) (zone : Zone) (given : List Answer) → told_report (form_at c zone) reasons (report_lines c zone given) ≡ why_report asked c zone given
-  report_told c zone given =
-      let lines = report_lines c zone given in
-      told_from reasons c zone lines
-      ∙ ap (λ (x : Open). why_from reasons.asked c zone (last_of reasons.before (filter (is_earlier reasons.asked c) lines)) x (filter (is_of reasons.asked c) lines)) q
-      ∙ ap (λ (x : Option ReportLine). why_from reasons.asked c zone (last_of x (filter (is_earlier reasons.asked c) lines)) nothing_open (filter (is_of reasons.asked c) lines)) r
-      ∙ ap (λ (x : Asked). why_lines x c zone lines) p
+module _ (reasons : Reasons) (asked : Asked) (config : Config) (p : reasons.asked ≡ asked) (known : reasons.periods ≡ config) (r : reasons.before ≡ None) (q : reasons.current ≡ nothing_open) where
+  report_told : (zone : Zone) (given : List Answer) → told_report (form_at config zone) reasons (report_lines config zone given) ≡ why_report asked config zone given
+  report_told zone given =
+      let lines = report_lines config zone given in
+      let of : Asked → List ReportLine = λ asked. filter (is_of asked config) lines in
+      let early : Asked → List ReportLine = λ asked. filter (is_earlier asked config) lines in
+      told_from reasons config zone lines
+      ∙ ap (λ (x : Config). why_from reasons.asked x zone (last_of reasons.before (early reasons.asked)) reasons.current (of reasons.asked)) known
+      ∙ ap (λ (x : Open). why_from reasons.asked config zone (last_of reasons.before (early reasons.asked)) x (of reasons.asked)) q
+      ∙ ap (λ (x : Option ReportLine). why_from reasons.asked config zone (last_of x (early reasons.asked)) nothing_open (of reasons.asked)) r
+      ∙ ap (λ (x : Asked). why_lines x config zone lines) p
 
   -- what is told is what is written of the attempts
-  pub is_why : (can_fail : Bool) (config : Config) (feed : List ℕ) (zone : Zone) (ending : Ending) (old new : Option (List ℕ))
+  pub is_why : (can_fail : Bool) (feed : List ℕ) (zone : Zone) (ending : Ending) (old new : Option (List ℕ))
       → tells.TellsFor form_at reasons can_fail config feed zone ending old new → TellsWhy asked can_fail config feed zone ending old new
-  is_why can_fail config feed zone ending old new h =
-      (h.0, h.1, h.2, subst (λ text. Writes old new text) (report_told config zone h.0) h.3)
+  is_why can_fail feed zone ending old new h =
+      (h.0, h.1, h.2, subst (λ text. Writes old new text) (report_told zone h.0) h.3)
 
   -- and so is a front of it
-  pub why_front : (can_fail : Bool) (config : Config) (feed : List ℕ) (zone : Zone) (old new : Option (List ℕ))
+  pub why_front : (can_fail : Bool) (feed : List ℕ) (zone : Zone) (old new : Option (List ℕ))
       → tells.TellsFrontFor form_at reasons can_fail config feed zone old new → TellsWhyFront asked can_fail config feed zone old new
-  why_front can_fail config feed zone old new h =
-      (h.0, h.1, subst (λ text. WritesFront old new text) (report_told config zone h.0) h.2)
+  why_front can_fail feed zone old new h =
+      (h.0, h.1, subst (λ text. WritesFront old new text) (report_told zone h.0) h.2)
 
 pub some_told : {X : Type 0} (known : Option X) (P Q : X → Type 0) → ((x : X) → P x → Q x) → IfSome known P → IfSome known Q
 some_told None P Q f h = tt
 some_told (Some x) P Q f h = f x h
+
+-- nothing was written
+pub front_of_nothing : (asked : Asked) (can_fail : Bool) (config : Config) (zone : Zone) (known held : Option (List ℕ)) → IfSome known (λ bytes. TellsWhyFront asked can_fail config bytes zone held held)
+front_of_nothing asked can_fail config zone None held = tt
+front_of_nothing asked can_fail config zone (Some bytes) held = (answers config.objects 0 0 (pieces bytes), inl refl, front_none held _)

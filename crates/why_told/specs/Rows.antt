@@ -19,7 +19,8 @@ use Rattle.pretty_lines.specs.Columns.{paint}
 use Rattle.who_missed.specs.declared.forms.RowForm.{RowForm}
 use Rattle.who_missed.specs.Forms.{is_coloured, is_json, row_end}
 use Rattle.why_told.specs.declared.teller.Asked.{Asked}
-use Rattle.filter_values.specs.Values.{contact_filter_text, filter_text}
+use Rattle.filter_values.specs.Values.{contact_filter_text, contact_period_of, filter_text, period_of}
+use Rattle.period_begins.specs.Begins.{begins_text}
 
 -- the number of a notice, where it has one
 abbrev pub notice_number : ℕ → List ℕ
@@ -57,18 +58,24 @@ told_of asked c zone n =
 
 -- ---- by which filter a contact is refused, and the value that this goes by
 
-unfoldable pub refused_row : Config → Suppression → (k : ℕ) → List ℕ
-refused_row c s k =
-    codes "    refused      " ++ contact_text c k ++ codes "  "
-    ++ contact_filter_text c s.object.0 k s.filter
+-- the filter, its value, and when the contact's period begins
+unfoldable pub refused_value : Config → Zone → Suppression → (k : ℕ) → List ℕ
+refused_value c zone s k =
+    contact_filter_text c s.object.0 k s.filter
+    ++ begins_text c zone (contact_period_of c s.object.0 k s.filter) s.moment
 
-unfoldable pub refused_text : (coloured : Bool) → Config → Suppression → (k : ℕ) → List ℕ
-refused_text coloured c s k = paint coloured (codes "33") ++ refused_row c s k ++ row_end coloured
+unfoldable pub refused_row : Config → Zone → Suppression → (k : ℕ) → List ℕ
+refused_row c zone s k =
+    codes "    refused      " ++ contact_text c k ++ codes "  " ++ refused_value c zone s k
+
+unfoldable pub refused_text : (coloured : Bool) → Config → Zone → Suppression → (k : ℕ) → List ℕ
+refused_text coloured c zone s k =
+    paint coloured (codes "33") ++ refused_row c zone s k ++ row_end coloured
 
 abbrev pub refused_form : RowForm → Config → Zone → Suppression → (k : ℕ) → List ℕ
 refused_form form c zone s k =
     if is_json form then json_text c zone (Decided (Withheld s))
-    else refused_text (is_coloured form) c s k
+    else refused_text (is_coloured form) c zone s k
 
 abbrev pub refused_of : Asked → Config → Zone → Suppression → (k : ℕ) → List ℕ
 refused_of asked c zone s k =
@@ -76,11 +83,15 @@ refused_of asked c zone s k =
 
 -- ---- by which filter the object is stopped, and the value that this goes by
 
-unfoldable pub stopped_row : Config → Suppression → List ℕ
-stopped_row c s = codes "    stopped      " ++ filter_text c s.object.0 s.filter
+-- and when the object's period begins
+unfoldable pub stopped_row : Config → Zone → Suppression → List ℕ
+stopped_row c zone s =
+    codes "    stopped      " ++ filter_text c s.object.0 s.filter
+    ++ begins_text c zone (period_of c s.object.0 s.filter) s.moment
 
-unfoldable pub stopped_text : (coloured : Bool) → Config → Suppression → List ℕ
-stopped_text coloured c s = paint coloured (codes "31") ++ stopped_row c s ++ row_end coloured
+unfoldable pub stopped_text : (coloured : Bool) → Config → Zone → Suppression → List ℕ
+stopped_text coloured c zone s =
+    paint coloured (codes "31") ++ stopped_row c zone s ++ row_end coloured
 
 -- how a row of what a filter stopped went on after its first
 unfoldable pub more_row : Zone → (moment more : ℕ) → List ℕ

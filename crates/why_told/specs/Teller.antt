@@ -39,7 +39,7 @@ is_early asked c line = is_before asked.from line && is_picked (picks_of asked) 
 -- nothing of a line that isn't of what is asked
 abbrev pub told_line : Reasons → Config → Zone → ReportLine → List ℕ
 told_line reasons c zone line =
-    if is_of reasons.asked c line then line_text reasons.asked c zone reasons.current line else []
+    if is_of reasons.asked c line then line_text reasons.asked reasons.periods zone reasons.current line else []
 
 -- after a line that isn't
 abbrev pub after_other : Reasons → Config → ReportLine → Reasons
@@ -52,5 +52,5 @@ after_told reasons c line =
     then record reasons { current = after_line reasons.current line }
     else after_other reasons c line
 
-abbrev pub ended_text : Reasons → Config → Zone → List ℕ
-ended_text reasons c zone = ending_text reasons.asked c zone reasons.before reasons.current
+abbrev pub ended_text : Reasons → Zone → List ℕ
+ended_text reasons zone = ending_text reasons.asked reasons.periods zone reasons.before reasons.current

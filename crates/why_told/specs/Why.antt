@@ -49,7 +49,7 @@ ending_text asked c zone before current =
 unfoldable pub stop_rows : (coloured : Bool) → Config → Zone → Suppression → List ℕ
 stop_rows coloured c zone s =
     head_text zone s.moment s.kind s.state 0 ++ passed_text c s.object.0 (place_of s.filter)
-    ++ stopped_text coloured c s
+    ++ stopped_text coloured c zone s
 
 -- as JSON: its filters, and the line of the report
 unfoldable pub stop_json : Config → Zone → Suppression → List ℕ

@@ -17,6 +17,7 @@ mod text;
 use command_output::{CommandFault, Ending, Sink};
 use due_model::config::Config;
 use due_model::zone::Zone;
+use period_begins::Periods;
 use progress::Watcher;
 use report_telling::tell_feed;
 use std::alloc::Global;
@@ -47,6 +48,7 @@ pub fn why<R: Input + Drop, W: Sink, P: Watcher>(
         (W.contents writer.old) (W.contents writer.new)) }
     ensures fault { IfErr result (λ fault. IsWriteFault W.can_fail fault) }
 {
-    let reasons = Reasons::new(alloc, asked);
+    let periods = Periods::new(alloc, config)?;
+    let reasons = Reasons::new(alloc, asked, periods);
     tell_feed(alloc, config, zone, feed, reasons, writer, watcher)
 }

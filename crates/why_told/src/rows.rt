@@ -3,19 +3,22 @@
 ghost use Rattle.std.specs.Prelude.{◌≡◌, ◌++◌, OnOk};
 ghost use Rattle.std.specs.Option.{option_copied};
 ghost use Rattle.why_told.specs.Rows.{head_text, is_asked, more_row, notice_number, refused_form, refused_of};
-ghost use Rattle.why_told.specs.Rows.{refused_row, refused_text, stopped_row, stopped_text, told_form, told_of};
+ghost use Rattle.why_told.specs.Rows.{refused_row, refused_text, refused_value, stopped_row, stopped_text, told_form, told_of};
 ghost use Rattle.why_told.specs.Rows.{told_row, told_text};
 
 use crate::teller::Asked;
 use due_model::config::{Config, ContactId};
 use due_model::notice::{Kind, Notice, Suppression};
 use due_model::state::State;
-use filter_values::{push_contact_filter, push_decimal, push_filter_after};
+use filter_values::{
+    contact_period_of, period_of, push_contact_filter, push_decimal, push_filter_after,
+};
 use line_forms::{ReportLine, push_json};
 use local_text::push_local;
 use messages::entries::Entry;
 use notice_text::names::{kind_name, state_name};
 use notice_text::texts::{contact_name, lane_name};
+use period_begins::Periods;
 use pretty_lines::push_paint;
 use std::alloc::{AllocError, Global};
 use who_missed::{is_coloured, is_json, push_row_end};
@@ -130,21 +133,40 @@ pub(crate) fn push_told(
     }
 }
 
-/// Adds by which filter a contact is refused.
-#[tactic(auto, unfolding(crate::specs::Rows::refused_row))]
-fn push_refused_row(
+/// Adds the filter that a contact is refused by, its value, and when its period begins.
+#[tactic(auto, unfolding(crate::specs::Rows::refused_value))]
+fn push_refused_value(
     text: &mut Vec<u8>,
-    config: &Config,
+    periods: &Periods<'_>,
+    clock: &ZoneClock<'_>,
     withheld: &Suppression,
     contact: ContactId,
 ) -> Result<(), AllocError>
     ensures { OnOk result (text.new.items
-        ≡ text.old.items ++ refused_row config.now withheld.now contact.0) }
+        ≡ text.old.items ++ refused_value periods.now clock.now withheld.now contact.0) }
+{
+    let (config, object) = (periods.config(), withheld.object);
+    push_contact_filter(text, config, object, contact, withheld.filter)?;
+    let period = contact_period_of(config, object, contact, withheld.filter);
+    periods.push_begins(text, clock, period, withheld.moment)
+}
+
+/// Adds by which filter a contact is refused.
+#[tactic(auto, unfolding(crate::specs::Rows::refused_row))]
+fn push_refused_row(
+    text: &mut Vec<u8>,
+    periods: &Periods<'_>,
+    clock: &ZoneClock<'_>,
+    withheld: &Suppression,
+    contact: ContactId,
+) -> Result<(), AllocError>
+    ensures { OnOk result (text.new.items
+        ≡ text.old.items ++ refused_row periods.now clock.now withheld.now contact.0) }
 {
     text.extend_from_slice(b"    refused      ")?;
-    text.extend_from_slice(contact_name(config, contact))?;
+    text.extend_from_slice(contact_name(periods.config(), contact))?;
     text.extend_from_slice(b"  ")?;
-    push_contact_filter(text, config, withheld.object, contact, withheld.filter)
+    push_refused_value(text, periods, clock, withheld, contact)
 }
 
 /// The same as a row, with its colour.
@@ -152,15 +174,16 @@ fn push_refused_row(
 fn push_refused_text(
     text: &mut Vec<u8>,
     coloured: bool,
-    config: &Config,
+    periods: &Periods<'_>,
+    clock: &ZoneClock<'_>,
     withheld: &Suppression,
     contact: ContactId,
 ) -> Result<(), AllocError>
     ensures { OnOk result (text.new.items
-        ≡ text.old.items ++ refused_text coloured config.now withheld.now contact.0) }
+        ≡ text.old.items ++ refused_text coloured periods.now clock.now withheld.now contact.0) }
 {
     push_paint(text, coloured, b"33")?;
-    push_refused_row(text, config, withheld, contact)?;
+    push_refused_row(text, periods, clock, withheld, contact)?;
     push_row_end(text, coloured)
 }
 
@@ -168,20 +191,27 @@ fn push_refused_text(
 fn push_refused_form(
     alloc: Global,
     text: &mut Vec<u8>,
-    config: &Config,
+    periods: &Periods<'_>,
     clock: &ZoneClock<'_>,
     asked: Asked<'_>,
     withheld: &Suppression,
     contact: ContactId,
 ) -> Result<(), AllocError>
     ensures { OnOk result (text.new.items ≡ text.old.items
-        ++ refused_form asked.entry.form config.now clock.now withheld.now contact.0) }
+        ++ refused_form asked.entry.form periods.now clock.now withheld.now contact.0) }
 {
     if is_json(asked.form) {
         let line = ReportLine::Decided(Entry::Withheld(*withheld));
-        push_json(alloc, text, config, clock, &line)
+        push_json(alloc, text, periods.config(), clock, &line)
     } else {
-        push_refused_text(text, is_coloured(asked.form), config, withheld, contact)
+        push_refused_text(
+            text,
+            is_coloured(asked.form),
+            periods,
+            clock,
+            withheld,
+            contact,
+        )
     }
 }
 
@@ -189,17 +219,17 @@ fn push_refused_form(
 pub(crate) fn push_refused(
     alloc: Global,
     text: &mut Vec<u8>,
-    config: &Config,
+    periods: &Periods<'_>,
     clock: &ZoneClock<'_>,
     asked: Asked<'_>,
     withheld: &Suppression,
     contact: ContactId,
 ) -> Result<(), AllocError>
     ensures { OnOk result (text.new.items ≡ text.old.items
-        ++ refused_of asked.entry config.now clock.now withheld.now contact.0) }
+        ++ refused_of asked.entry periods.now clock.now withheld.now contact.0) }
 {
-    if is_asked(config, asked.contact, contact) {
-        push_refused_form(alloc, text, config, clock, asked, withheld, contact)
+    if is_asked(periods.config(), asked.contact, contact) {
+        push_refused_form(alloc, text, periods, clock, asked, withheld, contact)
     } else {
         Ok(())
     }
@@ -209,12 +239,16 @@ pub(crate) fn push_refused(
 #[tactic(auto, unfolding(crate::specs::Rows::stopped_row))]
 fn push_stopped_row(
     text: &mut Vec<u8>,
-    config: &Config,
+    periods: &Periods<'_>,
+    clock: &ZoneClock<'_>,
     stop: &Suppression,
 ) -> Result<(), AllocError>
-    ensures { OnOk result (text.new.items ≡ text.old.items ++ stopped_row config.now stop.now) }
+    ensures { OnOk result (text.new.items ≡ text.old.items ++ stopped_row periods.now clock.now stop.now) }
 {
-    push_filter_after(text, b"    stopped      ", config, stop.object, stop.filter)
+    let config = periods.config();
+    push_filter_after(text, b"    stopped      ", config, stop.object, stop.filter)?;
+    let period = period_of(config, stop.object, stop.filter);
+    periods.push_begins(text, clock, period, stop.moment)
 }
 
 /// The same as a row, with its colour.
@@ -222,14 +256,15 @@ fn push_stopped_row(
 pub(crate) fn push_stopped_text(
     text: &mut Vec<u8>,
     coloured: bool,
-    config: &Config,
+    periods: &Periods<'_>,
+    clock: &ZoneClock<'_>,
     stop: &Suppression,
 ) -> Result<(), AllocError>
     ensures { OnOk result
-        (text.new.items ≡ text.old.items ++ stopped_text coloured config.now stop.now) }
+        (text.new.items ≡ text.old.items ++ stopped_text coloured periods.now clock.now stop.now) }
 {
     push_paint(text, coloured, b"31")?;
-    push_stopped_row(text, config, stop)?;
+    push_stopped_row(text, periods, clock, stop)?;
     push_row_end(text, coloured)
 }
 

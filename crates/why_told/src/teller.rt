@@ -9,6 +9,7 @@ use crate::text::{push_ending, push_line};
 use due_model::config::Config;
 use line_forms::{Picks, ReportLine};
 use messages::entries::Entry;
+use period_begins::Periods;
 use report_telling::Teller;
 use std::alloc::{AllocError, Global};
 use who_missed::RowForm;
@@ -34,6 +35,8 @@ pub struct Asked<'a> {
 pub struct Reasons<'a> {
     alloc: Global,
     asked: Asked<'a>,
+    /// The configuration of the report.
+    periods: Periods<'a>,
     /// The last line of the object before the span.
     before: Option<ReportLine>,
     current: Open,
@@ -41,14 +44,16 @@ pub struct Reasons<'a> {
 
 impl<'a> Reasons<'a> {
     /// One that was told no line yet.
-    pub(crate) fn new(alloc: Global, asked: Asked<'a>) -> Reasons<'a>
+    pub(crate) fn new(alloc: Global, asked: Asked<'a>, periods: Periods<'a>) -> Reasons<'a>
         ensures asked { result.asked ≡ asked.entry }
+        ensures periods { result.periods ≡ periods.entry }
         ensures before { result.before ≡ None }
         ensures current { result.current ≡ nothing_open }
     {
         Reasons {
             alloc,
             asked,
+            periods,
             before: None,
             current: Open::new(alloc),
         }
@@ -136,7 +141,7 @@ impl Teller for Reasons<'_> {
 
     ghost after = { λ reasons config _ line. after_told reasons config line };
 
-    ghost ended = { λ reasons config zone. ended_text reasons config zone };
+    ghost ended = { λ reasons _ zone. ended_text reasons zone };
 
     fn tell(
         &mut self,
@@ -150,24 +155,33 @@ impl Teller for Reasons<'_> {
             self.pass_over(config, line)?;
             return Ok(());
         }
-        push_line(alloc, text, config, clock, asked, &self.current, line)?;
+        push_line(
+            alloc,
+            text,
+            &self.periods,
+            clock,
+            asked,
+            &self.current,
+            line,
+        )?;
         self.current.go_on(line)
     }
 
     fn end(
         &mut self,
-        config: &Config,
+        _config: &Config,
         clock: &ZoneClock<'_>,
         text: &mut Vec<u8>,
     ) -> Result<(), AllocError> {
         let (alloc, asked) = (self.alloc, self.asked);
+        let before = self.before;
         push_ending(
             alloc,
             text,
-            config,
+            &self.periods,
             clock,
             asked,
-            self.before,
+            before,
             &self.current,
         )
     }

@@ -10,12 +10,13 @@ use crate::missing::push_missing;
 use crate::nothing::push_nothing;
 use crate::rows::{push_head, push_more, push_refused, push_stopped_text, push_told};
 use crate::teller::Asked;
-use due_model::config::{Config, ContactId, ObjectId};
+use due_model::config::{ContactId, ObjectId};
 use due_model::notice::{Kind, Notice, Suppression};
 use due_model::state::State;
 use filter_values::{place_of, push_passed, push_tried};
 use line_forms::{ReportLine, push_json};
 use messages::entries::Entry;
+use period_begins::Periods;
 use std::alloc::{AllocError, Global};
 use who_missed::{RowForm, is_coloured, is_json};
 use zone_times::clock::ZoneClock;
@@ -87,17 +88,17 @@ fn push_rest(
 fn push_close(
     alloc: Global,
     text: &mut Vec<u8>,
-    config: &Config,
+    periods: &Periods<'_>,
     clock: &ZoneClock<'_>,
     asked: Asked<'_>,
     current: &Open,
 ) -> Result<(), AllocError>
     ensures { OnOk result (text.new.items
-        ≡ text.old.items ++ close_text asked.entry config.now clock.now current.now) }
+        ≡ text.old.items ++ close_text asked.entry periods.now clock.now current.now) }
 {
     push_rest(text, asked.form, clock, current.more, current.stopped)?;
     let lines = current.met.as_slice();
-    push_missing(alloc, text, config, asked, lines, lines.get(0))
+    push_missing(alloc, text, periods.config(), asked, lines, lines.get(0))
 }
 
 /// Whether something is open.
@@ -111,17 +112,17 @@ fn is_open(current: &Open) -> bool
 pub(crate) fn push_ending(
     alloc: Global,
     text: &mut Vec<u8>,
-    config: &Config,
+    periods: &Periods<'_>,
     clock: &ZoneClock<'_>,
     asked: Asked<'_>,
     before: Option<ReportLine>,
     current: &Open,
 ) -> Result<(), AllocError>
     ensures { OnOk result (text.new.items ≡ text.old.items
-        ++ ending_text asked.entry config.now clock.now before current.now) }
+        ++ ending_text asked.entry periods.now clock.now before current.now) }
 {
     if is_open(current) {
-        push_close(alloc, text, config, clock, asked, current)
+        push_close(alloc, text, periods, clock, asked, current)
     } else {
         push_nothing(text, clock, asked, before)
     }
@@ -132,16 +133,16 @@ pub(crate) fn push_ending(
 fn push_stop_rows(
     text: &mut Vec<u8>,
     coloured: bool,
-    config: &Config,
+    periods: &Periods<'_>,
     clock: &ZoneClock<'_>,
     stop: &Suppression,
 ) -> Result<(), AllocError>
     ensures { OnOk result
-        (text.new.items ≡ text.old.items ++ stop_rows coloured config.now clock.now stop.now) }
+        (text.new.items ≡ text.old.items ++ stop_rows coloured periods.now clock.now stop.now) }
 {
     push_head(text, clock, stop.moment, stop.kind, stop.state, 0)?;
-    push_passed(text, config, stop.object, place_of(stop.filter))?;
-    push_stopped_text(text, coloured, config, stop)
+    push_passed(text, periods.config(), stop.object, place_of(stop.filter))?;
+    push_stopped_text(text, coloured, periods, clock, stop)
 }
 
 /// The same as JSON.
@@ -149,25 +150,25 @@ fn push_stop_rows(
 fn push_stop_json(
     alloc: Global,
     text: &mut Vec<u8>,
-    config: &Config,
+    periods: &Periods<'_>,
     clock: &ZoneClock<'_>,
     stop: &Suppression,
 ) -> Result<(), AllocError>
     ensures { OnOk result
-        (text.new.items ≡ text.old.items ++ stop_json config.now clock.now stop.now) }
+        (text.new.items ≡ text.old.items ++ stop_json periods.now clock.now stop.now) }
 {
     let (object, place) = (stop.object, place_of(stop.filter));
     push_tried(
         alloc,
         text,
-        config,
+        periods.config(),
         stop.event,
         object,
         place,
         Some(stop.filter),
     )?;
     let line = ReportLine::Decided(Entry::Withheld(*stop));
-    push_json(alloc, text, config, clock, &line)
+    push_json(alloc, text, periods.config(), clock, &line)
 }
 
 /// The same in a form.
@@ -175,17 +176,17 @@ fn push_new_stop(
     alloc: Global,
     text: &mut Vec<u8>,
     form: RowForm,
-    config: &Config,
+    periods: &Periods<'_>,
     clock: &ZoneClock<'_>,
     stop: &Suppression,
 ) -> Result<(), AllocError>
     ensures { OnOk result
-        (text.new.items ≡ text.old.items ++ new_stop_text form config.now clock.now stop.now) }
+        (text.new.items ≡ text.old.items ++ new_stop_text form periods.now clock.now stop.now) }
 {
     if is_json(form) {
-        push_stop_json(alloc, text, config, clock, stop)
+        push_stop_json(alloc, text, periods, clock, stop)
     } else {
-        push_stop_rows(text, is_coloured(form), config, clock, stop)
+        push_stop_rows(text, is_coloured(form), periods, clock, stop)
     }
 }
 
@@ -194,15 +195,15 @@ fn push_again(
     alloc: Global,
     text: &mut Vec<u8>,
     form: RowForm,
-    config: &Config,
+    periods: &Periods<'_>,
     clock: &ZoneClock<'_>,
     stop: &Suppression,
 ) -> Result<(), AllocError>
     ensures { OnOk result
-        (text.new.items ≡ text.old.items ++ again_text form config.now clock.now stop.now) }
+        (text.new.items ≡ text.old.items ++ again_text form periods.now clock.now stop.now) }
 {
     if is_json(form) {
-        push_stop_json(alloc, text, config, clock, stop)
+        push_stop_json(alloc, text, periods, clock, stop)
     } else {
         Ok(())
     }
@@ -212,36 +213,36 @@ fn push_again(
 fn push_stop(
     alloc: Global,
     text: &mut Vec<u8>,
-    config: &Config,
+    periods: &Periods<'_>,
     clock: &ZoneClock<'_>,
     asked: Asked<'_>,
     current: &Open,
     stop: &Suppression,
 ) -> Result<(), AllocError>
     ensures { OnOk result (text.new.items
-        ≡ text.old.items ++ stop_text asked.entry config.now clock.now current.now stop.now) }
+        ≡ text.old.items ++ stop_text asked.entry periods.now clock.now current.now stop.now) }
 {
     if current.goes_on(stop) {
-        return push_again(alloc, text, asked.form, config, clock, stop);
+        return push_again(alloc, text, asked.form, periods, clock, stop);
     }
-    push_close(alloc, text, config, clock, asked, current)?;
-    push_new_stop(alloc, text, asked.form, config, clock, stop)
+    push_close(alloc, text, periods, clock, asked, current)?;
+    push_new_stop(alloc, text, asked.form, periods, clock, stop)
 }
 
 /// Adds how an attempt begins that goes out.
 #[tactic(auto, unfolding(crate::specs::Why::out_rows))]
 fn push_out_rows(
     text: &mut Vec<u8>,
-    config: &Config,
+    periods: &Periods<'_>,
     clock: &ZoneClock<'_>,
     attempt: Attempt,
 ) -> Result<(), AllocError>
     ensures { OnOk result
-        (text.new.items ≡ text.old.items ++ out_rows config.now clock.now attempt) }
+        (text.new.items ≡ text.old.items ++ out_rows periods.now clock.now attempt) }
 {
     let (moment, number) = (attempt.moment, attempt.number);
     push_head(text, clock, moment, attempt.kind, attempt.state, number)?;
-    push_passed(text, config, attempt.object, FILTERS)
+    push_passed(text, periods.config(), attempt.object, FILTERS)
 }
 
 /// The same in a form.
@@ -249,18 +250,18 @@ fn push_out(
     alloc: Global,
     text: &mut Vec<u8>,
     form: RowForm,
-    config: &Config,
+    periods: &Periods<'_>,
     clock: &ZoneClock<'_>,
     attempt: Attempt,
 ) -> Result<(), AllocError>
     ensures { OnOk result
-        (text.new.items ≡ text.old.items ++ out_text form config.now clock.now attempt) }
+        (text.new.items ≡ text.old.items ++ out_text form periods.now clock.now attempt) }
 {
     if is_json(form) {
         let (event, object) = (attempt.event, attempt.object);
-        push_tried(alloc, text, config, event, object, FILTERS, None)
+        push_tried(alloc, text, periods.config(), event, object, FILTERS, None)
     } else {
-        push_out_rows(text, config, clock, attempt)
+        push_out_rows(text, periods, clock, attempt)
     }
 }
 
@@ -268,27 +269,27 @@ fn push_out(
 fn push_begin(
     alloc: Global,
     text: &mut Vec<u8>,
-    config: &Config,
+    periods: &Periods<'_>,
     clock: &ZoneClock<'_>,
     asked: Asked<'_>,
     current: &Open,
     attempt: Attempt,
 ) -> Result<(), AllocError>
     ensures { OnOk result (text.new.items
-        ≡ text.old.items ++ begin_text asked.entry config.now clock.now current.now attempt) }
+        ≡ text.old.items ++ begin_text asked.entry periods.now clock.now current.now attempt) }
 {
     if current.has_event(attempt.event) {
         return Ok(());
     }
-    push_close(alloc, text, config, clock, asked, current)?;
-    push_out(alloc, text, asked.form, config, clock, attempt)
+    push_close(alloc, text, periods, clock, asked, current)?;
+    push_out(alloc, text, asked.form, periods, clock, attempt)
 }
 
 /// Adds what a suppression does, which has this contact or none.
 fn push_withheld(
     alloc: Global,
     text: &mut Vec<u8>,
-    config: &Config,
+    periods: &Periods<'_>,
     clock: &ZoneClock<'_>,
     asked: Asked<'_>,
     current: &Open,
@@ -296,55 +297,55 @@ fn push_withheld(
     contact: Option<ContactId>,
 ) -> Result<(), AllocError>
     ensures { OnOk result (text.new.items ≡ text.old.items
-        ++ withheld_text asked.entry config.now clock.now current.now withheld.now contact) }
+        ++ withheld_text asked.entry periods.now clock.now current.now withheld.now contact) }
 {
     let Some(contact) = contact else {
-        return push_stop(alloc, text, config, clock, asked, current, withheld);
+        return push_stop(alloc, text, periods, clock, asked, current, withheld);
     };
     let attempt = withheld_attempt(withheld);
-    push_begin(alloc, text, config, clock, asked, current, attempt)?;
-    push_refused(alloc, text, config, clock, asked, withheld, contact)
+    push_begin(alloc, text, periods, clock, asked, current, attempt)?;
+    push_refused(alloc, text, periods, clock, asked, withheld, contact)
 }
 
 /// Adds what a notice does.
 fn push_sent(
     alloc: Global,
     text: &mut Vec<u8>,
-    config: &Config,
+    periods: &Periods<'_>,
     clock: &ZoneClock<'_>,
     asked: Asked<'_>,
     current: &Open,
     notice: &Notice,
 ) -> Result<(), AllocError>
     ensures { OnOk result (text.new.items
-        ≡ text.old.items ++ sent_text asked.entry config.now clock.now current.now notice.now) }
+        ≡ text.old.items ++ sent_text asked.entry periods.now clock.now current.now notice.now) }
 {
     let attempt = sent_attempt(notice);
-    push_begin(alloc, text, config, clock, asked, current, attempt)?;
-    push_told(alloc, text, config, clock, asked, notice)
+    push_begin(alloc, text, periods, clock, asked, current, attempt)?;
+    push_told(alloc, text, periods.config(), clock, asked, notice)
 }
 
 /// Adds what a line of the object's report does, after what is open.
 pub(crate) fn push_line(
     alloc: Global,
     text: &mut Vec<u8>,
-    config: &Config,
+    periods: &Periods<'_>,
     clock: &ZoneClock<'_>,
     asked: Asked<'_>,
     current: &Open,
     line: &ReportLine,
 ) -> Result<(), AllocError>
     ensures { OnOk result (text.new.items
-        ≡ text.old.items ++ line_text asked.entry config.now clock.now current.now line.now) }
+        ≡ text.old.items ++ line_text asked.entry periods.now clock.now current.now line.now) }
 {
     match line {
         ReportLine::Decided(Entry::Sent(notice)) => {
-            push_sent(alloc, text, config, clock, asked, current, notice)
+            push_sent(alloc, text, periods, clock, asked, current, notice)
         }
         ReportLine::Decided(Entry::Withheld(withheld)) => push_withheld(
             alloc,
             text,
-            config,
+            periods,
             clock,
             asked,
             current,

@@ -1,5 +1,5 @@
 use Rattle.std.proofs.lemmas.Result.{IfOk-weaker}
-use Rattle.why_told.proofs.WhyLaws.{is_why, some_told, why_front}
+use Rattle.why_told.proofs.WhyLaws.{front_of_nothing, is_why, some_told, why_front}
 use Rattle.why_told.proofs.why.Goals as goal
 
 pub returns-clause-report : goal.returns-clause-report
@@ -7,12 +7,16 @@ returns-clause-report g c =
     let n = c.new-reasons.ensures in
     some_told (g.R.Read.remaining c.args.feed) _ _
     (λ bytes h. IfOk-weaker c.tell_feed.result _ _
-    (λ ending told. is_why c.new-reasons.result c.args.asked n.asked n.before n.current g.R.Input.can_fail c.args.config.now bytes c.args.zone.now ending _ _ told) h)
+    (λ ending told. is_why c.new-reasons.result c.args.asked c.args.config.now n.asked (n.periods ∙ c.in_ok-periods.ensures) n.before n.current g.R.Input.can_fail bytes c.args.zone.now ending _ _ told) h)
     c.tell_feed.ensures.report
 
 pub returns-clause-front : goal.returns-clause-front
 returns-clause-front g c =
     let n = c.new-reasons.ensures in
     some_told (g.R.Read.remaining c.args.feed) _ _
-    (λ bytes told. why_front c.new-reasons.result c.args.asked n.asked n.before n.current g.R.Input.can_fail c.args.config.now bytes c.args.zone.now _ _ told)
+    (λ bytes told. why_front c.new-reasons.result c.args.asked c.args.config.now n.asked (n.periods ∙ c.in_ok-periods.ensures) n.before n.current g.R.Input.can_fail bytes c.args.zone.now _ _ told)
     c.tell_feed.ensures.front
+
+pub returns-in_err-periods-clause-front : goal.returns-in_err-periods-clause-front
+returns-in_err-periods-clause-front g c =
+    front_of_nothing c.args.asked g.R.Input.can_fail c.args.config.now c.args.zone.now (g.R.Read.remaining c.args.feed) _
