@@ -145,7 +145,7 @@ fn push_state_change(
     change: &Change,
 ) -> Result<(), AllocError>
     requires { y ≤ 4480 }
-    ensures { OnOk result (text.new.items ≡ text.old.items ++ state_change span y change.now) }
+    ensures { OnOk result (text.new.items ≡ text.old.items ++ state_change span y change.entry.now) }
 {
     if same_state(change.before.state, change.now.state) {
         return Ok(());
@@ -161,7 +161,7 @@ fn push_downtime_change(
     change: &Change,
 ) -> Result<(), AllocError>
     requires { y ≤ 4480 }
-    ensures { OnOk result (text.new.items ≡ text.old.items ++ downtime_change span y change.now) }
+    ensures { OnOk result (text.new.items ≡ text.old.items ++ downtime_change span y change.entry.now) }
 {
     if same(0 < change.before.depth, 0 < change.now.depth) {
         return Ok(());
@@ -177,7 +177,7 @@ fn push_ack_change(
     change: &Change,
 ) -> Result<(), AllocError>
     requires { y ≤ 4480 }
-    ensures { OnOk result (text.new.items ≡ text.old.items ++ ack_change span y change.now) }
+    ensures { OnOk result (text.new.items ≡ text.old.items ++ ack_change span y change.entry.now) }
 {
     if same(change.before.ack.is_some(), change.now.ack.is_some()) {
         return Ok(());
@@ -189,7 +189,7 @@ fn push_ack_change(
 #[tactic(auto, unfolding(crate::specs::Rows::change_text))]
 fn push_change(text: &mut Vec<u8>, span: Span, y: u64, change: &Change) -> Result<(), AllocError>
     requires { y ≤ 4480 }
-    ensures { OnOk result (text.new.items ≡ text.old.items ++ change_text span y change.now) }
+    ensures { OnOk result (text.new.items ≡ text.old.items ++ change_text span y change.entry.now) }
 {
     push_state_change(text, span, y, change)?;
     push_downtime_change(text, span, y, change)?;
@@ -206,7 +206,7 @@ fn push_change_in(
 ) -> Result<(), AllocError>
     requires { y ≤ 4480 }
     ensures { OnOk result
-        (text.new.items ≡ text.old.items ++ change_in span y object.0 change.now) }
+        (text.new.items ≡ text.old.items ++ change_in span y object.0 change.entry.now) }
 {
     if is_of(object, change.object) {
         push_change(text, span, y, change)
