@@ -18,12 +18,18 @@ height rows = bottom rows + 140
 
 -- ---- the head
 
-unfoldable pub open_text : (rows : ℕ) → List ℕ
-open_text rows =
+unfoldable pub tag_text : (height : ℕ) → List ℕ
+tag_text height =
     codes "<?xml version=\"1.0\" encoding=\"UTF-8\"?>\n<svg xmlns=\"http://www.w3.org/2000/svg\""
-    ++ size_text 1260 (height rows)
+    ++ size_text 1260 height
     ++ codes " font-family=\"sans-serif\" font-size=\"12\">\n<title>Notices and suppressions</title>\n"
-    ++ bar_text 0 0 1260 (height rows) (codes "#ffffff") (codes "Notices and suppressions")
+
+unfoldable pub ground_text : (height : ℕ) → List ℕ
+ground_text height =
+    bar_text 0 0 1260 height (codes "#ffffff") (codes "Notices and suppressions")
+
+unfoldable pub open_text : (rows : ℕ) → List ℕ
+open_text rows = tag_text (height rows) ++ ground_text (height rows)
 
 -- from when to when
 unfoldable pub period_words : Zone → Span → List ℕ

@@ -104,8 +104,11 @@ start_text span y c =
 -- ---- marks
 
 -- a notice: filled, in the colour of its contact
-unfoldable pub told_paint : (k : ℕ) → List ℕ
-told_paint k = codes " stroke=\"#222222\" fill=\"" ++ contact_colour k
+unfoldable pub paint_of : (colour : List ℕ) → List ℕ
+paint_of colour = codes " stroke=\"#222222\" fill=\"" ++ colour
+
+abbrev pub told_paint : (k : ℕ) → List ℕ
+told_paint k = paint_of (contact_colour k)
 
 unfoldable pub told_mark : Config → Zone → Span → (y : ℕ) → Notice → List ℕ
 told_mark c zone span y n =

@@ -1,10 +1,10 @@
 //! What is around the rows: the head, the time, and what the colours say.
 
 ghost use Rattle.std.specs.Prelude.{◌≡◌, ◌<◌, ◌≤◌, ◌++◌, OnOk};
-ghost use Rattle.night_picture.specs.Frame.{begin_words, bottom, contact_dot, contact_key, contact_keys, contact_words, key_text};
+ghost use Rattle.night_picture.specs.Frame.{begin_words, bottom, contact_dot, contact_key, contact_keys, contact_words, ground_text, height, key_text};
 ghost use Rattle.night_picture.specs.Frame.{keys_text, left_line, left_text, left_words, mark_key, named_key, open_text, other_keys};
 ghost use Rattle.night_picture.specs.Frame.{period_text, period_words, state_keys, tick_line, tick_moment, tick_text};
-ghost use Rattle.night_picture.specs.Frame.{tick_words, ticks_text};
+ghost use Rattle.night_picture.specs.Frame.{tick_words, tag_text, ticks_text};
 
 use crate::rows::push_told_paint;
 use crate::shapes::{
@@ -25,19 +25,32 @@ pub(crate) fn bottom(rows: usize) -> u64
     80 + 22 * (rows.min(200) as u64)
 }
 
-/// Adds how the picture begins.
-#[tactic(auto, unfolding(crate::specs::Frame::open_text))]
-pub(crate) fn push_open(text: &mut Vec<u8>, rows: usize) -> Result<(), AllocError>
-    ensures { OnOk result (text.new.items ≡ text.old.items ++ open_text rows) }
+/// How high the picture is.
+fn height(rows: usize) -> u64
+    ensures { result ≡ height rows }
 {
-    let height = bottom(rows) + 140;
+    bottom(rows) + 140
+}
+
+/// Adds how the text begins.
+#[tactic(auto, unfolding(crate::specs::Frame::tag_text))]
+fn push_tag(text: &mut Vec<u8>, height: u64) -> Result<(), AllocError>
+    ensures { OnOk result (text.new.items ≡ text.old.items ++ tag_text height) }
+{
     text.extend_from_slice(
         b"<?xml version=\"1.0\" encoding=\"UTF-8\"?>\n<svg xmlns=\"http://www.w3.org/2000/svg\"",
     )?;
     push_size(text, 1_260, height)?;
     text.extend_from_slice(
         b" font-family=\"sans-serif\" font-size=\"12\">\n<title>Notices and suppressions</title>\n",
-    )?;
+    )
+}
+
+/// Adds the ground.
+#[tactic(auto, unfolding(crate::specs::Frame::ground_text))]
+fn push_ground(text: &mut Vec<u8>, height: u64) -> Result<(), AllocError>
+    ensures { OnOk result (text.new.items ≡ text.old.items ++ ground_text height) }
+{
     let ground = Place {
         x: 0,
         y: 0,
@@ -45,6 +58,16 @@ pub(crate) fn push_open(text: &mut Vec<u8>, rows: usize) -> Result<(), AllocErro
         height,
     };
     push_bar(text, ground, b"#ffffff", b"Notices and suppressions")
+}
+
+/// Adds how the picture begins.
+#[tactic(auto, unfolding(crate::specs::Frame::open_text))]
+pub(crate) fn push_open(text: &mut Vec<u8>, rows: usize) -> Result<(), AllocError>
+    ensures { OnOk result (text.new.items ≡ text.old.items ++ open_text rows) }
+{
+    let height = height(rows);
+    push_tag(text, height)?;
+    push_ground(text, height)
 }
 
 /// Adds from when to when it is, as words.

@@ -3,7 +3,7 @@
 ghost use Rattle.std.specs.Prelude.{◌≡◌, ◌≤◌, ◌++◌, find, flat_map, OnOk};
 ghost use Rattle.night_marks.specs.Lists.{is_of, mark_object};
 ghost use Rattle.night_picture.specs.Rows.{ack_band, ack_change, ack_start, band_text, change_in, change_text, downtime_band};
-ghost use Rattle.night_picture.specs.Rows.{downtime_change, downtime_start, first_condition, first_rows, mark_in, mark_state, mark_text};
+ghost use Rattle.night_picture.specs.Rows.{downtime_change, downtime_start, first_condition, first_rows, mark_in, mark_state, mark_text, paint_of};
 ghost use Rattle.night_picture.specs.Rows.{marked_condition, name_text, row_at, row_text, rows_text, start_text, state_band};
 ghost use Rattle.night_picture.specs.Rows.{state_change, stopped_mark, told_mark, told_paint, x_at, y_at};
 ghost use Rattle.night_picture.specs.Shapes.{escaped_text};
@@ -326,13 +326,20 @@ fn push_start(text: &mut Vec<u8>, span: Span, y: u64, first: &Condition) -> Resu
     push_ack_start(text, span, y, first)
 }
 
+/// Adds the paint of a filled mark.
+#[tactic(auto, unfolding(crate::specs::Rows::paint_of))]
+fn push_paint(text: &mut Vec<u8>, colour: &[u8]) -> Result<(), AllocError>
+    ensures { OnOk result (text.new.items ≡ text.old.items ++ paint_of colour.now) }
+{
+    text.extend_from_slice(b" stroke=\"#222222\" fill=\"")?;
+    text.extend_from_slice(colour)
+}
+
 /// Adds the paint of a notice.
-#[tactic(auto, unfolding(crate::specs::Rows::told_paint))]
 pub(crate) fn push_told_paint(text: &mut Vec<u8>, contact: ContactId) -> Result<(), AllocError>
     ensures { OnOk result (text.new.items ≡ text.old.items ++ told_paint contact.0) }
 {
-    text.extend_from_slice(b" stroke=\"#222222\" fill=\"")?;
-    text.extend_from_slice(contact_colour(contact))
+    push_paint(text, contact_colour(contact))
 }
 
 /// Adds the mark of a notice.

@@ -54,7 +54,6 @@ pub(crate) fn push_text(text: &mut Vec<u8>, bytes: &[u8]) -> Result<(), AllocErr
 }
 
 /// Of an escaped text nothing is left that would begin or end a tag or a value.
-#[tactic(auto, using(crate::proofs::EscapeLaws::leaves_no_markup))]
 pub fn escaped_texts_have_no_markup()
     ensures { LeavesNoMarkup }
 {}
