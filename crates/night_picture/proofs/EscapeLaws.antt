@@ -5,7 +5,7 @@ use Rattle.std.proofs.lemmas.List.Elements.{All-cons, All-nil}
 use Rattle.night_picture.specs.Shapes.{LeavesNoMarkup, escaped, escaped_text, is_markup}
 
 -- whether some byte would begin or end a tag or a value
-any_markup : List ℕ → Bool
+abbrev any_markup : List ℕ → Bool
 any_markup [] = false
 any_markup (byte ∷ bytes) = is_markup byte || any_markup bytes
 

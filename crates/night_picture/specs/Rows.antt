@@ -118,8 +118,8 @@ told_mark c zone span y n =
 -- a suppression: hollow
 unfoldable pub stopped_mark : Config → Zone → Span → (y : ℕ) → Suppression → List ℕ
 stopped_mark c zone span y s =
-    round_text (codes "<circle class=\"stopped\" r=\"3\" cx=\"") (x_at span s.moment) (y + 11)
-    (codes " stroke=\"#555555\" pointer-events=\"all\" fill=\"none") (stopped_title c zone s)
+    round_text (codes "<circle class=\"stopped\" r=\"5\" cx=\"") (x_at span s.moment) (y + 11)
+    (codes " stroke=\"#000000\" pointer-events=\"all\" fill=\"none") (stopped_title c zone s)
 
 abbrev pub mark_text : Config → Zone → Span → (y : ℕ) → Entry → List ℕ
 mark_text c zone span y (Sent n) = told_mark c zone span y n

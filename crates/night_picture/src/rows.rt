@@ -384,8 +384,8 @@ fn push_stopped(
     let mut title = Vec::new(alloc);
     push_stopped_title(&mut title, config, clock, withheld)?;
     let x = x_at(span, withheld.moment);
-    let front = b"<circle class=\"stopped\" r=\"3\" cx=\"";
-    let paint = b" stroke=\"#555555\" pointer-events=\"all\" fill=\"none";
+    let front = b"<circle class=\"stopped\" r=\"5\" cx=\"";
+    let paint = b" stroke=\"#000000\" pointer-events=\"all\" fill=\"none";
     push_round(text, front, x, y + 11, paint, &title)
 }
 
