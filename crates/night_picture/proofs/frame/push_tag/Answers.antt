@@ -1,7 +1,7 @@
 use Rattle.std.proofs.Common.{◌++◌, ℕ, List, ap, append_assoc, codes, ◌∙◌}
-use Rattle.std.proofs.lemmas.Result.{on_ok_weaker}
 use Rattle.night_picture.specs.Frame.{tag_text}
 use Rattle.night_picture.specs.Shapes.{size_text}
+use Rattle.night_picture.proofs.TextLaws.{ok_items}
 use Rattle.night_picture.proofs.frame.push_tag.Goals as goal
 
 pub returns : goal.returns
@@ -11,10 +11,7 @@ returns c =
     let front : List ℕ = codes "<?xml version=\"1.0\" encoding=\"UTF-8\"?>\n<svg xmlns=\"http://www.w3.org/2000/svg\"" in
     let size : List ℕ = size_text 1260 c.args.height in
     let end : List ℕ = codes " font-family=\"sans-serif\" font-size=\"12\">\n<title>Notices and suppressions</title>\n" in
-    on_ok_weaker c.extend_from_slice-2.result
-    (λ h.
-    h
-    ∙ ap (λ (t : List ℕ). t ++ end)
+    ok_items c.extend_from_slice-2.result _ _ _ _ c.extend_from_slice-2.ensures.items
+    (ap (λ (t : List ℕ). t ++ end)
     (c.in_ok-push_size.ensures ∙ ap (λ (t : List ℕ). t ++ size) c.in_ok-extend_from_slice.ensures.items ∙ append_assoc text front size)
     ∙ append_assoc text (front ++ size) end)
-    c.extend_from_slice-2.ensures.items
