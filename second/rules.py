@@ -43,6 +43,8 @@ class Status:
     ready: int = None
     # Of the acknowledgement that holds: its word, and the state in which it came.
     taken_on: tuple = None
+    # What its own switch says, if it was switched.
+    switched: bool = None
 
 
 class Rules:
@@ -89,7 +91,7 @@ class Rules:
         same = now.last is not None and now.sent > 0 and now.last[0] == now.state
         tests = [
             ("Program", not self.is_on),
-            ("Disabled", not it.enabled),
+            ("Disabled", not (it.enabled if now.switched is None else now.switched)),
             ("Downtime", not of_downtime and down),
             ("Flapping", of_state and now.flapping),
             ("Options", letter not in it.options),
@@ -162,7 +164,8 @@ class Rules:
         elif kind in ("ENABLE_NOTIFICATIONS", "DISABLE_NOTIFICATIONS"):
             self.is_on = kind == "ENABLE_NOTIFICATIONS"
         else:
-            {"STATE": self.state, "DOWNTIME": self.downtime, "FLAPPING": self.flapping, "ACK": self.take_on}[kind](number, word)
+            {"STATE": self.state, "DOWNTIME": self.downtime, "FLAPPING": self.flapping, "ACK": self.take_on,
+             "NOTIFICATIONS": self.switch}[kind](number, word)
         self.count += 1
 
     def clock(self):
@@ -185,8 +188,14 @@ class Rules:
 
     def take_on(self, number, word):
         now = self.statuses[number]
-        if now.state not in NO_PROBLEM:
+        if word == "NONE":
+            if now.taken_on is not None:
+                now.taken_on, now.ready = None, self.moment
+        elif now.state not in NO_PROBLEM:
             now.taken_on = (word, now.state)
+
+    def switch(self, number, word):
+        self.statuses[number].switched = word == "ON"
 
     def downtime(self, number, word):
         now = self.statuses[number]

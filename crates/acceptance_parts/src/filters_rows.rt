@@ -54,6 +54,9 @@ const OPEN: View = View {
         moment: 100,
         gap: 60,
     }),
+    renews: false,
+    told: OptionLetters::NONE,
+    host_problem: false,
 };
 
 const ALL: [Kind; 7] = [
@@ -379,7 +382,7 @@ fn contact_gives(
             zone: &zone,
             periods,
         };
-        let found = contact_verdict(config, ContactId(place as u16), &attempt).err();
+        let found = contact_verdict(config, ContactId(place as u16), &attempt, None).err();
         let wanted = if *kind == Kind::Problem {
             held.problem
         } else {

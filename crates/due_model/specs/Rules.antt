@@ -66,6 +66,8 @@ attempted o (event.Downtime p change) old ready t =
 attempted o (event.Flapping p starts) old ready t =
     if p.0 == o then attempted_by_flapping old.flapping starts else None
 attempted o (event.Ack p sticky) old ready t = None
+attempted o (event.AckRemoved p) old ready t = None
+attempted o (event.OwnSwitch p on) old ready t = None
 
 -- the letter of a state (chapter "Object Definitions", `notification_options`)
 abbrev pub state_letter : State → OptionLetter
@@ -98,6 +100,42 @@ has_letter set letter.Critical = set.critical
 has_letter set letter.Recovery = set.recovery
 has_letter set letter.Flapping = set.flapping
 has_letter set letter.Downtime = set.downtime
+
+-- the set of no letter
+abbrev pub no_letter : OptionLetters
+no_letter = record {
+  down = false;
+  unreachable = false;
+  warning = false;
+  unknown = false;
+  critical = false;
+  recovery = false;
+  flapping = false;
+  downtime = false;
+}
+
+-- a set with a letter
+abbrev pub with_letter : OptionLetter → OptionLetters → OptionLetters
+with_letter letter.Down set = record set { down = true }
+with_letter letter.Unreachable set = record set { unreachable = true }
+with_letter letter.Warning set = record set { warning = true }
+with_letter letter.Unknown set = record set { unknown = true }
+with_letter letter.Critical set = record set { critical = true }
+with_letter letter.Recovery set = record set { recovery = true }
+with_letter letter.Flapping set = record set { flapping = true }
+with_letter letter.Downtime set = record set { downtime = true }
+
+-- whether two sets have a letter in common
+abbrev pub meets : OptionLetters → OptionLetters → Bool
+meets a b =
+    a.down && b.down || a.unreachable && b.unreachable || a.warning && b.warning
+    || a.unknown && b.unknown || a.critical && b.critical || a.recovery && b.recovery
+    || a.flapping && b.flapping || a.downtime && b.downtime
+
+-- whether none of these letters is told to who has those options; where there is none, everybody is told
+abbrev pub is_untold : Option OptionLetters → OptionLetters → Bool
+is_untold None options = false
+is_untold (Some told) options = not (meets told options)
 
 -- a number for each state
 abbrev pub state_number : State → ℕ
@@ -179,13 +217,19 @@ failing c zone v a = first_failing (
           && nat_lt a.moment (v.began + 60 * v.delay),
       filter.FirstDelay,
     )
-    ∷ (is_problem a.kind && is_too_soon v.last a.state a.moment, filter.Interval)
+    ∷ (
+      is_problem a.kind && not v.renews && is_too_soon v.last a.state a.moment,
+      filter.Interval,
+    )
+    ∷ (is_of_problem a.kind && v.host_problem, filter.HostDown)
     ∷ [])
 
 -- The first of a contact's filters that fails, in their order (the same chapter).
-abbrev pub contact_failing : Config → Zone → Rights → Attempt → Option Filter
-contact_failing c zone rights a = first_failing (
+abbrev pub contact_failing : Config → Zone → Rights → Attempt → (told : Option OptionLetters)
+    → Option Filter
+contact_failing c zone rights a told = first_failing (
     (not rights.enabled, filter.ContactDisabled)
     ∷ (not (has_letter rights.options (letter_of a.kind a.state)), filter.ContactOptions)
     ∷ (not (in_period c zone rights.period a.moment), filter.ContactPeriod)
+    ∷ (is_untold told rights.options, filter.ContactNotTold)
     ∷ [])

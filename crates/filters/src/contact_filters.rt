@@ -4,7 +4,7 @@ ghost use Rattle.std.specs.Prelude.{◌≡◌, ◌<◌, ◌≤◌, not, length, 
 ghost use Rattle.std.specs.Result.{result_err};
 ghost use Rattle.due_model.specs.declared.config.Contact.{Contact};
 ghost use Rattle.due_model.specs.Limits.{last_moment};
-ghost use Rattle.due_model.specs.Rules.{contact_failing, letter_of};
+ghost use Rattle.due_model.specs.Rules.{contact_failing, is_untold, letter_of};
 ghost use Rattle.time_period.specs.Days.{AreCompiled};
 ghost use Rattle.filters.specs.Attempt.{plain, rights_of};
 
@@ -12,6 +12,7 @@ use crate::attempt::Attempt;
 use crate::verdict::stop_if;
 use due_model::config::{Config, Contact, ContactId, Rights};
 use due_model::notice::Filter;
+use due_model::options::OptionLetters;
 
 /// Tries the filters of a contact in their order. The error is the first one that fails (chapter "Notifications").
 /// The attempt's letter is that of its kind and state, and its periods are the configuration's. It takes no memory.
@@ -19,6 +20,7 @@ pub fn contact_verdict(
     config: &Config,
     contact: ContactId,
     attempt: &Attempt<'_>,
+    told: Option<OptionLetters>,
 ) -> Result<(), Filter>
     requires contact { contact.0 < length config.now.contacts }
     requires periods { AreCompiled config.now attempt.now.periods.now }
@@ -26,7 +28,7 @@ pub fn contact_verdict(
     requires letter { attempt.now.letter ≡ letter_of attempt.now.kind attempt.now.state }
     ensures { (k : Contact) → slice_get config.now.contacts contact.0 ≡ Some k
         → result_err result ≡ contact_failing config.now attempt.now.zone.now
-        (rights_of attempt.now.service k) (plain attempt.now) }
+        (rights_of attempt.now.service k) (plain attempt.now) told }
 {
     let rights = rights_of(
         attempt.service,
@@ -34,7 +36,18 @@ pub fn contact_verdict(
     );
     stop_if(is_disabled(rights), Filter::ContactDisabled)?;
     stop_if(attempt.lacks_letter(rights.options), Filter::ContactOptions)?;
-    stop_if(attempt.is_outside(rights.period), Filter::ContactPeriod)
+    stop_if(attempt.is_outside(rights.period), Filter::ContactPeriod)?;
+    stop_if(is_untold(told, rights), Filter::ContactNotTold)
+}
+
+/// None of these letters is one of the contact's.
+fn is_untold(told: Option<OptionLetters>, rights: &Rights) -> bool
+    ensures { result ≡ is_untold told rights.now.options }
+{
+    match told {
+        Some(letters) => !letters.meets(rights.options),
+        None => false,
+    }
 }
 
 /// What a contact is notified of, and on which lanes: for services, or for hosts.

@@ -38,7 +38,8 @@ pub fn object_verdict(view: View, attempt: &Attempt<'_>) -> Result<(), Filter>
     stop_if(depends(view, kind), Filter::Dependency)?;
     stop_if(is_acknowledged(view, kind), Filter::Acknowledged)?;
     stop_if(is_within_delay(view, attempt), Filter::FirstDelay)?;
-    stop_if(is_within_interval(view, attempt), Filter::Interval)
+    stop_if(is_within_interval(view, attempt), Filter::Interval)?;
+    stop_if(is_held_by_host(view, kind), Filter::HostDown)
 }
 
 /// The program switch is off.
@@ -83,6 +84,13 @@ fn depends(view: View, kind: Kind) -> bool
     kind.is_of_problem() && view.depends
 }
 
+/// The host of a service isn't UP, and this is about a problem.
+fn is_held_by_host(view: View, kind: Kind) -> bool
+    ensures { result ≡ (is_of_problem kind && view.host_problem) }
+{
+    kind.is_of_problem() && view.host_problem
+}
+
 /// The problem is acknowledged. Recoveries are told.
 fn is_acknowledged(view: View, kind: Kind) -> bool
     ensures { result ≡ (is_problem kind && view.acknowledged) }
@@ -102,11 +110,14 @@ fn is_within_delay(view: View, attempt: &Attempt<'_>) -> bool
         && attempt.moment < view.began + 60 * u64::from(view.delay)
 }
 
-/// The last problem notice reported the same state, and its interval is 0 or hasn't passed.
+/// The last problem notice reported the same state, and its interval is 0 or hasn't passed; never at a hard state of a
+/// volatile service.
 fn is_within_interval(view: View, attempt: &Attempt<'_>) -> bool
     requires last { IfSome view.last IsLastInRange }
-    ensures { result ≡ (is_problem attempt.now.kind
+    ensures { result ≡ (is_problem attempt.now.kind && not view.renews
         && is_too_soon view.last attempt.now.state attempt.now.moment) }
 {
-    attempt.kind.is_problem() && is_too_soon(view.last, attempt.state, attempt.moment)
+    attempt.kind.is_problem()
+        && !view.renews
+        && is_too_soon(view.last, attempt.state, attempt.moment)
 }

@@ -16,7 +16,7 @@ ghost use Rattle.object_settings.specs.Settings.{AreObjectsOf};
 use crate::asked::asked_of;
 use crate::limits::Counts;
 use crate::tables::Tables;
-use due_model::config::{Config, Contact, Dependency, Escalation, Lane};
+use due_model::config::{Choices, Config, Contact, Dependency, Escalation, Lane};
 use due_model::dependencies::Dependencies;
 use due_model::escalations::Escalations;
 use due_model::objects::Objects as ObjectTable;
@@ -179,6 +179,7 @@ pub(crate) fn config_of<'a>(
     let escalations = escalations_in(alloc, templates, tables, counts, &objects, &listed)?;
     let dependencies = dependencies_in(alloc, templates, tables, counts)?;
     Ok(Config {
+        choices: Choices::own(),
         objects,
         contacts: Sequence::new(contacts),
         lanes: Sequence::new(named),

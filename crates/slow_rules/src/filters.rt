@@ -1,16 +1,17 @@
 //! The filters of an object and of a contact, tried in their order (chapter "Notifications", "What Filters
 //! Must Be Passed In Order For Notifications To Be Sent?").
 
-ghost use Rattle.std.specs.Prelude.{◌≡◌, ◌≤◌, ◌+◌, ◌*◌, ◌==◌, ◌&&◌, nat_lt};
+ghost use Rattle.std.specs.Prelude.{◌≡◌, ◌≤◌, ◌+◌, ◌*◌, ◌==◌, ◌&&◌, nat_lt, not};
 ghost use Rattle.std.specs.Prelude.{IfOk, IfSome};
 ghost use Rattle.due_model.specs.Limits.{last_moment};
-ghost use Rattle.due_model.specs.Rules.{contact_failing, failing, is_problem, is_too_soon};
+ghost use Rattle.due_model.specs.Rules.{contact_failing, failing, is_problem, is_too_soon, is_untold};
 ghost use Rattle.slow_rules.specs.Histories.{IsLastInRange};
 
 use crate::periods::in_period;
 use crate::subject::Subject;
 use due_model::config::Rights;
 use due_model::notice::Filter;
+use due_model::options::OptionLetters;
 use due_model::rules::{Attempt, View, is_too_soon};
 use std::alloc::{AllocError, Global};
 
@@ -27,10 +28,12 @@ fn is_within_delay(view: View, attempt: Attempt) -> bool
 /// Whether the last problem notice reported the same state, and its gap is 0 or hasn't passed.
 fn is_within_gap(view: View, attempt: Attempt) -> bool
     requires { IfSome view.last IsLastInRange }
-    ensures { result ≡ (is_problem attempt.kind
+    ensures { result ≡ (is_problem attempt.kind && not view.renews
         && is_too_soon view.last attempt.state attempt.moment) }
 {
-    attempt.kind.is_problem() && is_too_soon(view.last, attempt.state, attempt.moment)
+    attempt.kind.is_problem()
+        && !view.renews
+        && is_too_soon(view.last, attempt.state, attempt.moment)
 }
 
 /// The first of an object's filters that fails, in their order.
@@ -75,8 +78,20 @@ pub(crate) fn failing(
         Ok(Some(Filter::FirstDelay))
     } else if is_within_gap(view, attempt) {
         Ok(Some(Filter::Interval))
+    } else if kind.is_of_problem() && view.host_problem {
+        Ok(Some(Filter::HostDown))
     } else {
         Ok(None)
+    }
+}
+
+/// Whether none of these letters is one of the contact's.
+fn is_untold(told: Option<OptionLetters>, rights: &Rights) -> bool
+    ensures { result ≡ is_untold told rights.now.options }
+{
+    match told {
+        Some(letters) => !letters.meets(rights.options),
+        None => false,
     }
 }
 
@@ -86,10 +101,11 @@ pub(crate) fn contact_failing(
     subject: &Subject<'_>,
     rights: &Rights,
     attempt: Attempt,
+    told: Option<OptionLetters>,
 ) -> Result<Option<Filter>, AllocError>
     requires moment { attempt.moment ≤ last_moment }
     ensures { IfOk result (λ filter. filter
-        ≡ contact_failing subject.now.config.now subject.now.zone.now rights.now attempt) }
+        ≡ contact_failing subject.now.config.now subject.now.zone.now rights.now attempt told) }
 {
     if !rights.enabled {
         Ok(Some(Filter::ContactDisabled))
@@ -103,6 +119,8 @@ pub(crate) fn contact_failing(
         attempt.moment,
     )? {
         Ok(Some(Filter::ContactPeriod))
+    } else if is_untold(told, rights) {
+        Ok(Some(Filter::ContactNotTold))
     } else {
         Ok(None)
     }

@@ -1,0 +1,88 @@
+-- What each choice means.
+use Rattle.std.proofs.Common.{◌≡◌, ℕ, ◌+◌, Bool, true, false, not, ◌&&◌, ◌||◌, cond, List, [], ◌∷◌, Option, None, Some, is_some, if◌then◌else◌, refl, sym, ap, ap₂, ◌∙◌, arith}
+use Rattle.std.proofs.lemmas.Bool.{not-false}
+use Rattle.std.proofs.lemmas.List.Sums.{sum_by-cons}
+use Rattle.due_model.specs.declared.config.Config.{Config}
+use Rattle.due_model.specs.declared.config.Object.{Object}
+use Rattle.due_model.specs.declared.notice.Filter.{Filter}
+use Rattle.due_model.specs.declared.notice.Filter.TheVariants as why
+use Rattle.due_model.specs.declared.notice.Kind.TheVariants as kind
+use Rattle.due_model.specs.declared.notice.Outcome.{Outcome}
+use Rattle.due_model.specs.declared.notice.Outcome.TheVariants.{Nothing, Sent}
+use Rattle.due_model.specs.declared.options.OptionLetters.{OptionLetters}
+use Rattle.due_model.specs.declared.rules.Last.{Last}
+use Rattle.due_model.specs.declared.event.Event.{Event}
+use Rattle.due_model.specs.declared.event.EventKind.TheVariants.{Clock}
+use Rattle.due_model.specs.declared.notice.Kind.{Kind}
+use Rattle.due_model.specs.declared.zone.Zone.{Zone}
+use Rattle.due_model.specs.Changes.{changes, delayed}
+use Rattle.due_model.specs.Histories.{before, ended, ended_at, last_notice, notice_of, notices_sent, outcome_of, told_letters, with_repeat}
+use Rattle.due_model.specs.Periods.{in_period}
+use Rattle.due_model.specs.Readings.{begins, hard, is_problem_state, moment}
+use Rattle.due_model.specs.Rules.{first_failing, has_come, has_letter, is_problem, letter_of, meets, state_letter, with_letter}
+use Rattle.choice_rows.specs.Laws.{AllAreHeard, ChangesEndTheWait, DelaysRunFromChanges, LeavesAll, TheClockDoesNothing, ToldLettersAreTaken, UnheardNoticesLeaveAll}
+
+or_last : (a : Bool) → (a || true) ≡ true
+or_last true = refl
+or_last false = refl
+
+and_none : (a : Bool) → (a && false) ≡ false
+and_none true = refl
+and_none false = refl
+
+-- an outcome that is no notice
+leaves_all : (x : Outcome) (history : List Outcome) → notice_of x ≡ None → LeavesAll x history
+leaves_all x history none =
+    let one = sum_by-cons (λ (y : Outcome). cond (is_some (notice_of y)) 1 0) x history in
+    let zero : cond (is_some (notice_of x)) 1 0 ≡ 0 = ap (λ (last : Option Last). cond (is_some last) 1 0) none in
+    record {
+      number = omega (arith, one, zero);
+      last = ap (λ (last : Option Last). elim last as (λ _. Option Last) [ None ↦ last_notice history | Some l ↦ Some l ]) none;
+      told = ap (λ (last : Option Last). elim last as (λ _. OptionLetters) [ None ↦ told_letters history | Some l ↦ with_letter (state_letter l.state) (told_letters history) ]) none;
+    }
+
+pub unheard_leaves : UnheardNoticesLeaveAll
+unheard_leaves k s number m gap reach history unheard =
+    let now : Last = record { state = s; moment = m; gap = gap } in
+    leaves_all (Sent k s number m gap reach) history
+    (ap (λ (heard : Bool). if is_problem k && heard then Some now else None) unheard ∙ ap (λ (b : Bool). if b then Some now else None) (and_none (is_problem k)))
+
+pub all_heard : AllAreHeard
+all_heard c zone o object a number told standing own = ap (λ (nobody : Bool). not nobody || _) own
+
+pub changes_end : ChangesEndTheWait
+changes_end c zone o object e past history chosen changed =
+    let so_far = ended c zone o object past history in
+    ap₂ (λ (a b : Bool). so_far || (a && b)) chosen changed ∙ or_last so_far
+
+pub delays_run : DelaysRunFromChanges
+delays_run c o e past chosen changed =
+    ap (λ (b : Bool). if (if b then changes o e past else begins o e past) then moment (e ∷ past) else delayed c o past) chosen
+    ∙ ap (λ (b : Bool). if b then moment (e ∷ past) else delayed c o past) changed
+
+none_by_test : (t : Bool) (f : Filter) (tests : List (Bool × Filter)) → first_failing ((t, f) ∷ tests) ≡ None → (t ≡ false) × (first_failing tests ≡ None)
+none_by_test true f tests h = cc
+none_by_test false f tests h = (refl, h)
+
+pub told_are_taken : ToldLettersAreTaken
+told_are_taken c zone rights a told none =
+    let t4 : List (Bool × Filter) = (not (meets told rights.options), why.ContactNotTold) ∷ [] in
+    let t3 : List (Bool × Filter) = (not (in_period c zone rights.period a.moment), why.ContactPeriod) ∷ t4 in
+    let t2 : List (Bool × Filter) = (not (has_letter rights.options (letter_of a.kind a.state)), why.ContactOptions) ∷ t3 in
+    let p1 = none_by_test (not rights.enabled) why.ContactDisabled t2 none in
+    let p2 = none_by_test (not (has_letter rights.options (letter_of a.kind a.state))) why.ContactOptions t3 p1.1 in
+    let p3 = none_by_test (not (in_period c zone rights.period a.moment)) why.ContactPeriod t4 p2.1 in
+    let p4 = none_by_test (not (meets told rights.options)) why.ContactNotTold [] p3.1 in
+    not-false (meets told rights.options) p4.0
+
+-- the clock attempts nothing whose ready moment is never
+never : (b p : Bool) (ready : Option ℕ) (t : ℕ) → b ≡ true → (if p && has_come (if b then None else ready) t then Some kind.Problem else None) ≡ None
+never true true ready t h = refl
+never true false ready t h = refl
+never false p ready t h = cc
+
+pub clock_does_nothing : TheClockDoesNothing
+clock_does_nothing c zone o m object past history chosen =
+    let e : Event = record { moment = m; kind = Clock } in
+    ap (λ (kind : Option Kind). outcome_of c zone o object e past (before o e past history) (ended_at c zone o object e past history) (with_repeat false kind))
+    (never c.choices.at_results (is_problem_state (hard o past)) _ (moment (e ∷ past)) chosen)

@@ -1,0 +1,61 @@
+-- What each choice of the daemon's rules means, whatever the configuration and the events.
+use Rattle.std.specs.Prelude.{◌≡◌, ℕ, Bool, true, false, List, ◌∷◌, Option, None, Some}
+use Rattle.due_model.specs.declared.config.Config.{Config}
+use Rattle.due_model.specs.declared.config.Object.{Object}
+use Rattle.due_model.specs.declared.config.Rights.{Rights}
+use Rattle.due_model.specs.declared.event.Event.{Event}
+use Rattle.due_model.specs.declared.event.EventKind.TheVariants.{Clock}
+use Rattle.due_model.specs.declared.notice.Kind.{Kind}
+use Rattle.due_model.specs.declared.notice.Outcome.{Outcome}
+use Rattle.due_model.specs.declared.notice.Outcome.TheVariants.{Nothing, Sent}
+use Rattle.due_model.specs.declared.notice.Reach.{Reach}
+use Rattle.due_model.specs.declared.options.OptionLetters.{OptionLetters}
+use Rattle.due_model.specs.declared.rules.Attempt.{Attempt}
+use Rattle.due_model.specs.declared.state.State.{State}
+use Rattle.due_model.specs.declared.zone.Zone.{Zone}
+use Rattle.due_model.specs.Changes.{changes, delayed}
+use Rattle.due_model.specs.Histories.{ended_at, last_notice, notices_sent, outcome, told_letters}
+use Rattle.due_model.specs.Readings.{moment}
+use Rattle.due_model.specs.Receivers.{is_heard}
+use Rattle.due_model.specs.Rules.{contact_failing, meets}
+
+-- A notice that doesn't count leaves number, wait and told letters as they were.
+pub record LeavesAll (x : Outcome) (history : List Outcome) : Type 0 where
+  pub number : notices_sent (x ∷ history) ≡ notices_sent history
+  pub last : last_notice (x ∷ history) ≡ last_notice history
+  pub told : told_letters (x ∷ history) ≡ told_letters history
+
+abbrev pub UnheardNoticesLeaveAll : Type 0
+UnheardNoticesLeaveAll = (k : Kind) (s : State) (number m gap : ℕ) (reach : Reach)
+    (history : List Outcome) → reach.heard ≡ false
+    → LeavesAll (Sent k s number m gap reach) history
+
+-- Where `nobody` isn't chosen each notice counts.
+abbrev pub AllAreHeard : Type 0
+AllAreHeard = (c : Config) (zone : Zone) (o : ℕ) (object : Object) (a : Attempt) (number : ℕ)
+    (told : Option OptionLetters) (standing : ℕ) → c.choices.nobody ≡ false
+    → is_heard c zone o object a number told standing ≡ true
+
+-- `reset_wait`: a change of the hard state ends the wait after the last notice.
+abbrev pub ChangesEndTheWait : Type 0
+ChangesEndTheWait = (c : Config) (zone : Zone) (o : ℕ) (object : Object) (e : Event)
+    (past : List Event) (history : List Outcome) → c.choices.reset_wait ≡ true
+    → changes o e past ≡ true → ended_at c zone o object e past history ≡ true
+
+-- `delay`: the first delay runs from the last change of the hard state.
+abbrev pub DelaysRunFromChanges : Type 0
+DelaysRunFromChanges = (c : Config) (o : ℕ) (e : Event) (past : List Event)
+    → c.choices.delay ≡ true → changes o e past ≡ true
+    → delayed c o (e ∷ past) ≡ moment (e ∷ past)
+
+-- `told`: who is notified where it matters what was told takes one of the letters told.
+abbrev pub ToldLettersAreTaken : Type 0
+ToldLettersAreTaken = (c : Config) (zone : Zone) (rights : Rights) (a : Attempt)
+    (told : OptionLetters) → contact_failing c zone rights a (Some told) ≡ None
+    → meets told rights.options ≡ true
+
+-- `at_results`: of the clock's event nothing becomes.
+abbrev pub TheClockDoesNothing : Type 0
+TheClockDoesNothing = (c : Config) (zone : Zone) (o m : ℕ) (object : Object) (past : List Event)
+    (history : List Outcome) → c.choices.at_results ≡ true
+    → outcome c zone o object (record { moment = m; kind = Clock }) past history ≡ Nothing
