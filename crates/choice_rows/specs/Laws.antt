@@ -4,6 +4,7 @@ use Rattle.due_model.specs.declared.config.Config.{Config}
 use Rattle.due_model.specs.declared.config.Object.{Object}
 use Rattle.due_model.specs.declared.config.Rights.{Rights}
 use Rattle.due_model.specs.declared.event.Event.{Event}
+use Rattle.due_model.specs.declared.event.EventKind.{EventKind}
 use Rattle.due_model.specs.declared.event.EventKind.TheVariants.{Clock}
 use Rattle.due_model.specs.declared.notice.Kind.{Kind}
 use Rattle.due_model.specs.declared.notice.Outcome.{Outcome}
@@ -14,9 +15,12 @@ use Rattle.due_model.specs.declared.rules.Attempt.{Attempt}
 use Rattle.due_model.specs.declared.state.State.{State}
 use Rattle.due_model.specs.declared.zone.Zone.{Zone}
 use Rattle.due_model.specs.Changes.{changes, delayed}
-use Rattle.due_model.specs.Histories.{ended_at, last_notice, notices_sent, outcome, told_letters}
-use Rattle.due_model.specs.Readings.{moment}
-use Rattle.due_model.specs.Receivers.{is_heard}
+use Rattle.due_model.specs.Choices.{own}
+use Rattle.due_model.specs.Dependencies.{dependency_fails}
+use Rattle.due_model.specs.Escalations.{contacts_with, has_contact}
+use Rattle.due_model.specs.Histories.{depends_at, ended_at, host_holds, last_notice, notices_sent, outcome, repeats, timed, told_for, told_letters}
+use Rattle.due_model.specs.Readings.{began, hard, moment}
+use Rattle.due_model.specs.Receivers.{is_heard, others}
 use Rattle.due_model.specs.Rules.{contact_failing, meets}
 
 -- A notice that doesn't count leaves number, wait and told letters as they were.
@@ -59,3 +63,28 @@ abbrev pub TheClockDoesNothing : Type 0
 TheClockDoesNothing = (c : Config) (zone : Zone) (o m : ℕ) (object : Object) (past : List Event)
     (history : List Outcome) → c.choices.at_results ≡ true
     → outcome c zone o object (record { moment = m; kind = Clock }) past history ≡ Nothing
+
+-- This project's rules, in which no definition knows of a choice.
+pub record KnowsNoChoice (c : Config) : Type 0 where
+  -- a service is told of whatever its host does, and held back by its own dependencies alone
+  pub host_down : (object : Object) (past : List Event) → host_holds c object past ≡ false
+  pub host_repeats : (o : ℕ) (k : EventKind) (past : List Event) → repeats c o k past ≡ false
+  pub host_dep : (zone : Zone) (o : ℕ) (object : Object) (e : Event) (past : List Event)
+      → depends_at c zone o object e past
+      ≡ dependency_fails c zone (λ master. hard master (e ∷ past)) (moment (e ∷ past)) o
+  -- each notice counts, and a recovery doesn't ask what was told
+  pub nobody : (zone : Zone) (o : ℕ) (object : Object) (a : Attempt) (number : ℕ)
+      (told : Option OptionLetters) (standing : ℕ)
+      → is_heard c zone o object a number told standing ≡ true
+  pub told : (object : Object) (k : Kind) (told : OptionLetters) → told_for c object k told ≡ None
+  -- the wait after the last notice runs on, and the first delay runs from where the problem began
+  pub waits : (zone : Zone) (o : ℕ) (object : Object) (e : Event) (past : List Event)
+      (history : List Outcome) → ended_at c zone o object e past history ≡ false
+  pub delay : (o : ℕ) (past : List Event) → delayed c o past ≡ began o past
+  -- flapping and downtimes are no matter of escalations, and the clock attempts problems again
+  pub esc_other : (zone : Zone) (o : ℕ) (object : Object) (a : Attempt) (standing : ℕ)
+      → others c zone o object a standing ≡ contacts_with c (has_contact object.contacts)
+  pub at_results : (ready : Option ℕ) → timed c ready ≡ ready
+
+abbrev pub OwnRulesKnowNoChoice : Type 0
+OwnRulesKnowNoChoice = (c : Config) → c.choices ≡ own → KnowsNoChoice c

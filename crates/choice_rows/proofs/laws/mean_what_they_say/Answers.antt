@@ -1,4 +1,4 @@
-use Rattle.choice_rows.proofs.ChoiceLaws.{all_heard, changes_end, clock_does_nothing, delays_run, told_are_taken, unheard_leaves}
+use Rattle.choice_rows.proofs.ChoiceLaws.{all_heard, changes_end, clock_does_nothing, delays_run, own_rules, told_are_taken, unheard_leaves}
 use Rattle.choice_rows.proofs.laws.mean_what_they_say.Goals as goal
 
 pub returns-clause-unheard : goal.returns-clause-unheard
@@ -18,3 +18,6 @@ returns-clause-told c = told_are_taken
 
 pub returns-clause-clock : goal.returns-clause-clock
 returns-clause-clock c = clock_does_nothing
+
+pub returns-clause-own : goal.returns-clause-own
+returns-clause-own c = own_rules
