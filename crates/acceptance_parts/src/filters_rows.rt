@@ -286,7 +286,7 @@ fn gives(rt: &impl Abort, periods: &[Compiled], case: Case) {
         periods,
     };
     assert!(rt; attempt.moment <= LAST_MOMENT && is_within_limits(case.view));
-    let found = object_verdict(case.view, &attempt).err();
+    let found = object_verdict(false, case.view, &attempt).err();
     assert_eq!(rt;
         found,
         case.found,

@@ -11,6 +11,8 @@ use Rattle.due_model.specs.declared.notice.Kind.TheVariants as kind
 use Rattle.due_model.specs.declared.notice.Outcome.{Outcome}
 use Rattle.due_model.specs.declared.notice.Outcome.TheVariants.{Nothing, Sent, Suppressed}
 use Rattle.due_model.specs.declared.options.OptionLetters.{OptionLetters}
+use Rattle.due_model.specs.declared.config.Rights.{Rights}
+use Rattle.due_model.specs.declared.rules.Attempt.{Attempt}
 use Rattle.due_model.specs.declared.rules.Last.{Last}
 use Rattle.due_model.specs.declared.event.Event.{Event}
 use Rattle.due_model.specs.declared.event.EventKind.{EventKind}
@@ -20,12 +22,12 @@ use Rattle.due_model.specs.declared.notice.Kind.{Kind}
 use Rattle.due_model.specs.declared.zone.Zone.{Zone}
 use Rattle.due_model.specs.Changes.{changes, delayed}
 use Rattle.due_model.specs.Choices.{own}
-use Rattle.due_model.specs.Dependencies.{dependency_fails}
+use Rattle.due_model.specs.Dependencies.{dependency_fails, fails_at}
 use Rattle.due_model.specs.Escalations.{contacts_with, has_contact, reach}
 use Rattle.due_model.specs.Histories.{before, down_with_host, ended, ended_at, ended_within, host_holds, is_service_of, lapses, last_notice, notice_of, notices_sent, outcome_of, repeats, told_letters, with_repeat}
 use Rattle.due_model.specs.Periods.{in_period}
 use Rattle.due_model.specs.Readings.{began, begins, hard, is_problem_state, moment}
-use Rattle.due_model.specs.Rules.{first_failing, has_come, has_letter, is_problem, is_recovery, letter_of, meets, same_state, state_letter, with_letter}
+use Rattle.due_model.specs.Rules.{contact_failing_by, failing_by, first_failing, has_come, has_letter, is_problem, is_recovery, letter_of, meets, same_state, state_letter, with_letter}
 use Rattle.choice_rows.specs.Laws.{AllAreHeard, ChangesEndTheWait, DelaysRunFromChanges, KnowsNoChoice, LeavesAll, OwnRulesKnowNoChoice, TheClockDoesNothing, ToldLettersAreTaken, UnheardNoticesLeaveAll}
 
 or_last : (a : Bool) → (a || true) ≡ true
@@ -70,8 +72,8 @@ none_by_test : (t : Bool) (f : Filter) (tests : List (Bool × Filter)) → first
 none_by_test true f tests h = cc
 none_by_test false f tests h = (refl, h)
 
-pub told_are_taken : ToldLettersAreTaken
-told_are_taken c zone rights a told none =
+taken_in_order : (daemons : Bool) (c : Config) (zone : Zone) (rights : Rights) (a : Attempt) (told : OptionLetters) → contact_failing_by daemons c zone rights a (Some told) ≡ None → meets told rights.options ≡ true
+taken_in_order false c zone rights a told none =
     let t4 : List (Bool × Filter) = (not (meets told rights.options), why.ContactNotTold) ∷ [] in
     let t3 : List (Bool × Filter) = (not (in_period c zone rights.period a.moment), why.ContactPeriod) ∷ t4 in
     let t2 : List (Bool × Filter) = (not (has_letter rights.options (letter_of a.kind a.state)), why.ContactOptions) ∷ t3 in
@@ -80,6 +82,18 @@ told_are_taken c zone rights a told none =
     let p3 = none_by_test (not (in_period c zone rights.period a.moment)) why.ContactPeriod t4 p2.1 in
     let p4 = none_by_test (not (meets told rights.options)) why.ContactNotTold [] p3.1 in
     not-false (meets told rights.options) p4.0
+taken_in_order true c zone rights a told none =
+    let t4 : List (Bool × Filter) = (not (meets told rights.options), why.ContactNotTold) ∷ [] in
+    let t3 : List (Bool × Filter) = (not (has_letter rights.options (letter_of a.kind a.state)), why.ContactOptions) ∷ t4 in
+    let t2 : List (Bool × Filter) = (not (in_period c zone rights.period a.moment), why.ContactPeriod) ∷ t3 in
+    let p1 = none_by_test (not rights.enabled) why.ContactDisabled t2 none in
+    let p2 = none_by_test (not (in_period c zone rights.period a.moment)) why.ContactPeriod t3 p1.1 in
+    let p3 = none_by_test (not (has_letter rights.options (letter_of a.kind a.state))) why.ContactOptions t4 p2.1 in
+    let p4 = none_by_test (not (meets told rights.options)) why.ContactNotTold [] p3.1 in
+    not-false (meets told rights.options) p4.0
+
+pub told_are_taken : ToldLettersAreTaken
+told_are_taken c zone rights a told none = taken_in_order c.choices.order c zone rights a told none
 
 -- the clock attempts nothing whose ready moment is never
 never : (b p : Bool) (ready : Option ℕ) (t : ℕ) → b ≡ true → (if p && has_come (if b then None else ready) t then Some kind.Problem else None) ≡ None
@@ -161,6 +175,9 @@ module _ (c : Config) (is : c.choices ≡ own) where
     esc_other = λ zone o object a standing.
         ap (λ (x : Choices). if x.esc_other && is_problem_state a.state then reach c zone o object standing (state_letter a.state) a.moment else contacts_with c (has_contact object.contacts)) is;
     at_results = λ ready. ap (λ (x : Choices). if x.at_results then None else ready) is;
+    dep_pending = λ set s. ap (λ (x : Choices). fails_at x.dep_pending set s) is;
+    order = λ zone v a. ap (λ (x : Choices). failing_by x.order c zone v a) is;
+    contact_order = λ zone rights a told. ap (λ (x : Choices). contact_failing_by x.order c zone rights a told) is;
   }
 
 pub own_rules : OwnRulesKnowNoChoice

@@ -12,16 +12,18 @@ use Rattle.due_model.specs.declared.notice.Outcome.TheVariants.{Nothing, Sent}
 use Rattle.due_model.specs.declared.notice.Reach.{Reach}
 use Rattle.due_model.specs.declared.options.OptionLetters.{OptionLetters}
 use Rattle.due_model.specs.declared.rules.Attempt.{Attempt}
+use Rattle.due_model.specs.declared.rules.View.{View}
 use Rattle.due_model.specs.declared.state.State.{State}
+use Rattle.due_model.specs.declared.state.StateSet.{StateSet}
 use Rattle.due_model.specs.declared.zone.Zone.{Zone}
 use Rattle.due_model.specs.Changes.{changes, delayed}
 use Rattle.due_model.specs.Choices.{own}
-use Rattle.due_model.specs.Dependencies.{dependency_fails}
+use Rattle.due_model.specs.Dependencies.{dependency_fails, fails_at, has_state}
 use Rattle.due_model.specs.Escalations.{contacts_with, has_contact}
 use Rattle.due_model.specs.Histories.{depends_at, ended_at, host_holds, last_notice, notices_sent, outcome, repeats, timed, told_for, told_letters}
 use Rattle.due_model.specs.Readings.{began, hard, moment}
 use Rattle.due_model.specs.Receivers.{is_heard, others}
-use Rattle.due_model.specs.Rules.{contact_failing, meets}
+use Rattle.due_model.specs.Rules.{contact_failing, failing, first_failing, in_own_contact_order, in_own_order, meets}
 
 -- A notice that doesn't count leaves number, wait and told letters as they were.
 pub record LeavesAll (x : Outcome) (history : List Outcome) : Type 0 where
@@ -85,6 +87,14 @@ pub record KnowsNoChoice (c : Config) : Type 0 where
   pub esc_other : (zone : Zone) (o : ℕ) (object : Object) (a : Attempt) (standing : ℕ)
       → others c zone o object a standing ≡ contacts_with c (has_contact object.contacts)
   pub at_results : (ready : Option ℕ) → timed c ready ≡ ready
+  -- a pending master fails a dependency that has `p`, and the first filter that fails is the first of the manual's
+  pub dep_pending : (set : StateSet) (s : State)
+      → fails_at c.choices.dep_pending set s ≡ has_state set s
+  pub order : (zone : Zone) (v : View) (a : Attempt)
+      → failing c zone v a ≡ first_failing (in_own_order c zone v a)
+  pub contact_order : (zone : Zone) (rights : Rights) (a : Attempt) (told : Option OptionLetters)
+      → contact_failing c zone rights a told
+      ≡ first_failing (in_own_contact_order c zone rights a told)
 
 abbrev pub OwnRulesKnowNoChoice : Type 0
 OwnRulesKnowNoChoice = (c : Config) → c.choices ≡ own → KnowsNoChoice c

@@ -19,7 +19,7 @@ use Rattle.due_model.specs.declared.rules.Attempt.{Attempt}
 use Rattle.due_model.specs.declared.rules.View.{View}
 use Rattle.due_model.specs.Receivers.{receivers, rights_for}
 use Rattle.due_model.specs.declared.options.OptionLetters.{OptionLetters}
-use Rattle.due_model.specs.Rules.{contact_failing, failing, first_failing, has_letter, is_untold, letter_of, is_problem, is_recovery, is_of_problem, is_of_downtime, is_too_soon}
+use Rattle.due_model.specs.Rules.{contact_failing, contact_failing_by, failing, failing_by, first_failing, has_letter, is_untold, letter_of, is_problem, is_recovery, is_of_problem, is_of_downtime, is_too_soon}
 use Rattle.due_model.specs.Periods.{in_period}
 use Rattle.lemmas.proofs.Lists.{AllPairs-head, AllPairs-tail}
 use Rattle.lemmas.proofs.Notices.{receivers_increase, the_notice, notice_to_cases}
@@ -35,8 +35,8 @@ named : (b : Bool) (tests : List (Bool × Filter)) → AllByRecursion (λ t. is_
 named b [] h f is = cc
 named b (t ∷ tests) h f is = named_by b t.0 t.1 tests h.0 (named b tests h.1) f is
 
-object_filter : (c : Config) (zone : Zone) (v : View) (a : Attempt) (f : Filter) → failing c zone v a ≡ Some f → is_of_contact f ≡ false
-object_filter c zone v a f is =
+object_filter_by : (daemons : Bool) (c : Config) (zone : Zone) (v : View) (a : Attempt) (f : Filter) → failing_by daemons c zone v a ≡ Some f → is_of_contact f ≡ false
+object_filter_by false c zone v a f is =
     named false
     ((not v.program, why.Program)
     ∷ (not v.enabled, why.Disabled)
@@ -53,8 +53,28 @@ object_filter c zone v a f is =
     ∷ [])
     (refl, (refl, (refl, (refl, (refl, (refl, (refl, (refl, (refl, (refl, (refl, (refl, tt)))))))))))) f is
 
-contact_filter : (c : Config) (zone : Zone) (rights : Rights) (a : Attempt) (told : Option OptionLetters) (f : Filter) → contact_failing c zone rights a told ≡ Some f → is_of_contact f ≡ true
-contact_filter c zone rights a told f is =
+object_filter_by true c zone v a f is =
+    named false
+    ((not v.program, why.Program)
+    ∷ (not (in_period c zone v.period a.moment), why.Period)
+    ∷ (not v.enabled, why.Disabled)
+    ∷ (is_problem a.kind && v.acknowledged, why.Acknowledged)
+    ∷ (is_of_problem a.kind && v.depends, why.Dependency)
+    ∷ (not (has_letter v.options (letter_of a.kind a.state)), why.Options)
+    ∷ (is_recovery a.kind && v.sent == 0, why.NoProblem)
+    ∷ (is_problem a.kind && v.sent == 0 && nat_lt a.moment (v.began + 60 * v.delay), why.FirstDelay)
+    ∷ (is_of_problem a.kind && v.flapping, why.Flapping)
+    ∷ (not (is_of_downtime a.kind) && v.down, why.Downtime)
+    ∷ (is_problem a.kind && not v.renews && is_too_soon v.last a.state a.moment, why.Interval)
+    ∷ (is_of_problem a.kind && v.host_problem, why.HostDown)
+    ∷ [])
+    (refl, (refl, (refl, (refl, (refl, (refl, (refl, (refl, (refl, (refl, (refl, (refl, tt)))))))))))) f is
+
+object_filter : (c : Config) (zone : Zone) (v : View) (a : Attempt) (f : Filter) → failing c zone v a ≡ Some f → is_of_contact f ≡ false
+object_filter c zone v a f is = object_filter_by c.choices.order c zone v a f is
+
+contact_filter_by : (daemons : Bool) (c : Config) (zone : Zone) (rights : Rights) (a : Attempt) (told : Option OptionLetters) (f : Filter) → contact_failing_by daemons c zone rights a told ≡ Some f → is_of_contact f ≡ true
+contact_filter_by false c zone rights a told f is =
     named true
     ((not rights.enabled, why.ContactDisabled)
     ∷ (not (has_letter rights.options (letter_of a.kind a.state)), why.ContactOptions)
@@ -62,6 +82,17 @@ contact_filter c zone rights a told f is =
     ∷ (is_untold told rights.options, why.ContactNotTold)
     ∷ [])
     (refl, (refl, (refl, (refl, tt)))) f is
+contact_filter_by true c zone rights a told f is =
+    named true
+    ((not rights.enabled, why.ContactDisabled)
+    ∷ (not (in_period c zone rights.period a.moment), why.ContactPeriod)
+    ∷ (not (has_letter rights.options (letter_of a.kind a.state)), why.ContactOptions)
+    ∷ (is_untold told rights.options, why.ContactNotTold)
+    ∷ [])
+    (refl, (refl, (refl, (refl, tt)))) f is
+
+contact_filter : (c : Config) (zone : Zone) (rights : Rights) (a : Attempt) (told : Option OptionLetters) (f : Filter) → contact_failing c zone rights a told ≡ Some f → is_of_contact f ≡ true
+contact_filter c zone rights a told f is = contact_filter_by c.choices.order c zone rights a told f is
 
 -- of the pieces of a list only one has elements that pass
 

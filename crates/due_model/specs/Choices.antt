@@ -12,10 +12,12 @@ own = record {
   told = false;
   reset_wait = false;
   delay = false;
+  dep_pending = false;
   period_wait = false;
   downtime_wait = false;
   esc_other = false;
   at_results = false;
+  order = false;
 }
 
 -- the daemon's
@@ -28,8 +30,10 @@ nagios = record {
   told = true;
   reset_wait = true;
   delay = true;
+  dep_pending = true;
   period_wait = true;
   downtime_wait = true;
   esc_other = true;
   at_results = true;
+  order = true;
 }

@@ -216,6 +216,9 @@ pub struct Choices {
     /// The first delay. Here it runs from where the problem began (chapter "Object Definitions",
     /// `first_notification_delay`). By the daemon it runs anew from each change of the hard state.
     pub delay: bool,
+    /// A dependency whose master is pending. Here `p` says that it fails, and no other letter (chapter "Host and Service
+    /// Dependencies"). By the daemon a pending master counts as one that is UP or OK, and `p` says nothing.
+    pub dep_pending: bool,
     /// An attempt outside the object's period. Here the wait after the last notice runs on. The daemon sets its end to
     /// the period's next moment (chapter "Notifications").
     pub period_wait: bool,
@@ -228,6 +231,9 @@ pub struct Choices {
     /// What attempts a problem again. Here the clock does, once its ready moment has come. The daemon attempts with
     /// results of the object alone.
     pub at_results: bool,
+    /// Which filter is named, where several fail. Here it is the first in the order of the manual (chapter "Notifications"),
+    /// which puts the period after the options. The daemon asks the period first, and downtime and flapping last.
+    pub order: bool,
 }
 
 impl Choices {
@@ -243,10 +249,12 @@ impl Choices {
             told: false,
             reset_wait: false,
             delay: false,
+            dep_pending: false,
             period_wait: false,
             downtime_wait: false,
             esc_other: false,
             at_results: false,
+            order: false,
         }
     }
 
@@ -262,10 +270,12 @@ impl Choices {
             told: true,
             reset_wait: true,
             delay: true,
+            dep_pending: true,
             period_wait: true,
             downtime_wait: true,
             esc_other: true,
             at_results: true,
+            order: true,
         }
     }
 }

@@ -8,7 +8,7 @@ ghost use Rattle.due_model.specs.Rules.{attempted, attempted_by_state, attempted
 ghost use Rattle.due_model.specs.Rules.{attempted_by_flapping, downtime_kind, has_come, state_letter};
 ghost use Rattle.due_model.specs.Rules.{letter_of, has_letter, meets, with_letter, is_too_soon, next_notice, same_state};
 ghost use Rattle.due_model.specs.Rules.{is_problem, is_recovery, is_of_problem, is_of_downtime};
-ghost use Rattle.due_model.specs.Dependencies.{has_state};
+ghost use Rattle.due_model.specs.Dependencies.{fails_at, has_state};
 ghost use Rattle.due_model.specs.Histories.{number_after};
 
 use crate::config::{ObjectId, PeriodId};
@@ -62,6 +62,20 @@ impl StateSet {
             State::Unknown => self.unknown,
             State::Critical => self.critical,
         }
+    }
+
+    /// Whether a dependency with these states fails by the hard state of its master. By the daemon's rule a pending
+    /// master counts as one that is UP or OK.
+    pub fn fails_at(&self, daemons: bool, state: State) -> bool
+        ensures { result ≡ fails_at daemons self.now state }
+    {
+        let pending = if daemons {
+            self.up || self.fine
+        } else {
+            self.pending
+        };
+        let states = StateSet { pending, ..*self };
+        states.contains(state)
     }
 }
 

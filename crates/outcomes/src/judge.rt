@@ -45,7 +45,7 @@ pub(crate) fn judge(
     let view = view_of(object, settings, found, book);
     let attempt = attempt_of(rules, settings, found, kind);
     let number = kind.number_after(view.sent);
-    match object_verdict(view, &attempt) {
+    match object_verdict(rules.config.choices.order, view, &attempt) {
         Ok(()) => Outcome::Sent {
             kind,
             state: attempt.state,
