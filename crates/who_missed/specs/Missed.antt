@@ -7,7 +7,7 @@ use Rattle.due_model.specs.declared.config.Escalation.{Escalation}
 use Rattle.due_model.specs.declared.config.ObjectId.{ObjectId}
 use Rattle.due_model.specs.declared.zone.Zone.{Zone}
 use Rattle.due_model.specs.ByObject.{places_of}
-use Rattle.due_model.specs.Due.{rights_for}
+use Rattle.due_model.specs.Receivers.{rights_for}
 use Rattle.due_model.specs.Escalations.{has_contact}
 use Rattle.due_model.specs.Objects.{object_named}
 use Rattle.due_model.specs.Rules.{is_problem}

@@ -22,7 +22,7 @@ use Rattle.local_text.specs.Text.{local_text}
 use Rattle.who_missed.specs.Missed.{escalations_text, has_command, is_named, refuses, tells}
 use Rattle.why_told.specs.declared.attempts.Open.{Open}
 use Rattle.why_told.specs.Attempts.{goes_on, has_event}
-use Rattle.why_told.specs.Values.{contact_filter_text, filter_text, passed_text, place_of}
+use Rattle.why_told.specs.Values.{contact_filter_text, filter_count, filter_text, passed_text, place_of}
 
 -- ---- an attempt
 
@@ -122,7 +122,7 @@ close_text c zone asked current =
 -- what a filter of the object stops: nothing where it goes on with the row that is open
 unfoldable pub new_stop_text : Config → Zone → Suppression → List ℕ
 new_stop_text c zone s =
-    head_text zone s.moment s.kind s.state 0 ++ passed_text c s.object.0 (place_of s.filter)
+    head_text zone s.moment s.kind s.state 0 ++ passed_text c s.object.0 (place_of c.choices s.filter)
     ++ stopped_row c s
 
 abbrev pub stop_text : Config → Zone → Option (List ℕ) → Open → Suppression → List ℕ
@@ -132,7 +132,7 @@ stop_text c zone asked current s =
 -- how an attempt that goes out begins, where it isn't open: all filters of the object passed
 unfoldable pub out_text : Config → Zone → (o moment : ℕ) → Kind → State → (number : ℕ) → List ℕ
 out_text c zone o moment kind state number =
-    head_text zone moment kind state number ++ passed_text c o 11
+    head_text zone moment kind state number ++ passed_text c o (filter_count c.choices)
 
 abbrev pub begin_text : Config → Zone → Option (List ℕ) → Open → (event o moment : ℕ) → Kind
     → State → (number : ℕ) → List ℕ

@@ -12,7 +12,9 @@ ghost use Rattle.why_told.specs.Why.{no_receiver_text, notice_number, out_text, 
 ghost use Rattle.why_told.specs.Why.{stop_text, stopped_row, told_row, told_text, withheld_text};
 
 use crate::attempts::Open;
-use crate::values::{place_of, push_contact_filter, push_decimal, push_filter_after, push_passed};
+use crate::values::{
+    filter_count, place_of, push_contact_filter, push_decimal, push_filter_after, push_passed,
+};
 use due_model::config::{Config, ContactId, ObjectId};
 use due_model::limits::LAST_MOMENT;
 use due_model::notice::{Kind, Notice, Suppression};
@@ -28,9 +30,6 @@ use zone_times::clock::ZoneClock;
 
 /// How many numbers of contacts there may be.
 const CONTACTS: u32 = 65_536;
-
-/// How many filters an object has.
-const FILTERS: usize = 11;
 
 /// What an attempt is of.
 #[derive(Clone, Copy)]
@@ -374,7 +373,7 @@ fn push_new_stop(
         (text.new.items ≡ text.old.items ++ new_stop_text config.now clock.now stop.now) }
 {
     push_head(text, clock, stop.moment, stop.kind, stop.state, 0)?;
-    push_passed(text, config, stop.object, place_of(stop.filter))?;
+    push_passed(text, config, stop.object, place_of(config.choices, stop.filter))?;
     push_stopped_row(text, config, stop)
 }
 
@@ -417,7 +416,7 @@ fn push_out(
         attempt.state,
         attempt.number,
     )?;
-    push_passed(text, config, attempt.object, FILTERS)
+    push_passed(text, config, attempt.object, filter_count(config.choices))
 }
 
 /// The same, where it isn't open.
