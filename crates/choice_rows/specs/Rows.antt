@@ -248,3 +248,49 @@ AtResultsOwn = Gives (record base { choices = own }) 0 at_results_feed ((0, 1000
 
 abbrev pub AtResultsNagios : Type 0
 AtResultsNagios = Gives (record base { choices = (record own { at_results = true }) }) 0 at_results_feed ((0, 1000, kind.Problem, state.Down, 1, 0) ∷ (2, 1061, kind.Problem, state.Down, 2, 0) ∷ []) []
+
+-- web depends on gate, which was never checked, where that is UP
+abbrev pub hangs_on : StateSet → Config
+hangs_on states = record gated {
+  dependencies = record {
+    dependent = record { 0 = 0 };
+    master = record { 0 = 2 };
+    inherits = false;
+    states = states;
+    period = None;
+  } ∷ [];
+}
+
+abbrev pub pending_alone : StateSet
+pending_alone = record { pending = true; up = false; down = false; unreachable = false; fine = false; warning = false; unknown = false; critical = false }
+
+abbrev pub up_alone : StateSet
+up_alone = record { pending = false; up = true; down = false; unreachable = false; fine = false; warning = false; unknown = false; critical = false }
+
+abbrev pub dep_pending_feed : List Event
+dep_pending_feed = (at 1000 (has 0 state.Down) ∷ [])
+
+abbrev pub DepPendingOwn : Type 0
+DepPendingOwn = Gives (record (hangs_on up_alone) { choices = own }) 0 dep_pending_feed ((0, 1000, kind.Problem, state.Down, 1, 0) ∷ []) []
+
+abbrev pub DepPendingNagios : Type 0
+DepPendingNagios = Gives (record (hangs_on up_alone) { choices = (record own { dep_pending = true }) }) 0 dep_pending_feed [] ((0, 1000, kind.Problem, state.Down, filter.Dependency) ∷ [])
+
+abbrev pub DepLetterOwn : Type 0
+DepLetterOwn = Gives (record (hangs_on pending_alone) { choices = own }) 0 dep_pending_feed [] ((0, 1000, kind.Problem, state.Down, filter.Dependency) ∷ [])
+
+abbrev pub DepLetterNagios : Type 0
+DepLetterNagios = Gives (record (hangs_on pending_alone) { choices = (record own { dep_pending = true }) }) 0 dep_pending_feed ((0, 1000, kind.Problem, state.Down, 1, 0) ∷ []) []
+
+-- web takes no DOWN, and its period never holds
+abbrev pub closed : Config
+closed = record base { periods = daily [] ∷ []; objects = record web { options = record every_letter { down = false }; period = Some (record { 0 = 0 }) } ∷ [] }
+
+abbrev pub order_feed : List Event
+order_feed = (at 1000 (has 0 state.Down) ∷ [])
+
+abbrev pub OrderOwn : Type 0
+OrderOwn = Gives (record closed { choices = own }) 0 order_feed [] ((0, 1000, kind.Problem, state.Down, filter.Options) ∷ [])
+
+abbrev pub OrderNagios : Type 0
+OrderNagios = Gives (record closed { choices = (record own { order = true }) }) 0 order_feed [] ((0, 1000, kind.Problem, state.Down, filter.Period) ∷ [])

@@ -1,6 +1,7 @@
 //! Worked rows of each choice, by this project's rule and by the daemon's.
 
 ghost use Rattle.choice_rows.specs.Rows.{HostDownOwn, HostDownNagios, HostRepeatsOwn, HostRepeatsNagios, HostDepOwn, HostDepNagios, NobodyOwn, NobodyNagios, ToldOwn, ToldNagios, ResetWaitOwn, ResetWaitNagios, DelayOwn, DelayNagios, PeriodWaitOwn, PeriodWaitNagios, DowntimeWaitOwn, DowntimeWaitNagios, EscOtherOwn, EscOtherNagios, AtResultsOwn, AtResultsNagios};
+ghost use Rattle.choice_rows.specs.Rows.{DepPendingOwn, DepPendingNagios, DepLetterOwn, DepLetterNagios, OrderOwn, OrderNagios};
 
 /// The definitions give what the rows say.
 pub fn worked_choices()
@@ -26,4 +27,10 @@ pub fn worked_choices()
     ensures esc_other_nagios { EscOtherNagios }
     ensures at_results_own { AtResultsOwn }
     ensures at_results_nagios { AtResultsNagios }
+    ensures dep_pending_own { DepPendingOwn }
+    ensures dep_pending_nagios { DepPendingNagios }
+    ensures dep_letter_own { DepLetterOwn }
+    ensures dep_letter_nagios { DepLetterNagios }
+    ensures order_own { OrderOwn }
+    ensures order_nagios { OrderNagios }
 {}

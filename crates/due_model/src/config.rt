@@ -216,7 +216,7 @@ pub struct Choices {
     /// The first delay. Here it runs from where the problem began (chapter "Object Definitions",
     /// `first_notification_delay`). By the daemon it runs anew from each change of the hard state.
     pub delay: bool,
-    /// A dependency whose master is pending. Here `p` says that it fails, and no other letter (chapter "Host and Service
+    /// A dependency whose master is pending. Here it fails where its options have `p` (chapter "Host and Service
     /// Dependencies"). By the daemon a pending master counts as one that is UP or OK, and `p` says nothing.
     pub dep_pending: bool,
     /// An attempt outside the object's period. Here the wait after the last notice runs on. The daemon sets its end to
@@ -231,8 +231,8 @@ pub struct Choices {
     /// What attempts a problem again. Here the clock does, once its ready moment has come. The daemon attempts with
     /// results of the object alone.
     pub at_results: bool,
-    /// Which filter is named, where several fail. Here it is the first in the order of the manual (chapter "Notifications"),
-    /// which puts the period after the options. The daemon asks the period first, and downtime and flapping last.
+    /// Which filter is named, where several fail. Here downtime and flapping are asked before the options and the period. The
+    /// daemon asks for the period first, and for flapping and downtime last.
     pub order: bool,
 }
 

@@ -90,3 +90,27 @@ returns-clause-at_results_own c = record { due = refl; suppressed = refl }
 pub returns-clause-at_results_nagios : goal.returns-clause-at_results_nagios
 unfolding hist
 returns-clause-at_results_nagios c = record { due = refl; suppressed = refl }
+
+pub returns-clause-dep_pending_own : goal.returns-clause-dep_pending_own
+unfolding hist
+returns-clause-dep_pending_own c = record { due = refl; suppressed = refl }
+
+pub returns-clause-dep_pending_nagios : goal.returns-clause-dep_pending_nagios
+unfolding hist
+returns-clause-dep_pending_nagios c = record { due = refl; suppressed = refl }
+
+pub returns-clause-dep_letter_own : goal.returns-clause-dep_letter_own
+unfolding hist
+returns-clause-dep_letter_own c = record { due = refl; suppressed = refl }
+
+pub returns-clause-dep_letter_nagios : goal.returns-clause-dep_letter_nagios
+unfolding hist
+returns-clause-dep_letter_nagios c = record { due = refl; suppressed = refl }
+
+pub returns-clause-order_own : goal.returns-clause-order_own
+unfolding hist
+returns-clause-order_own c = record { due = refl; suppressed = refl }
+
+pub returns-clause-order_nagios : goal.returns-clause-order_nagios
+unfolding hist
+returns-clause-order_nagios c = record { due = refl; suppressed = refl }
