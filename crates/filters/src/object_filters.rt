@@ -73,19 +73,18 @@ fn verdict_in_daemons_order(view: View, attempt: &Attempt<'_>) -> Result<(), Fil
         → result_err result
         ≡ first_failing (in_daemons_order c attempt.now.zone.now view (plain attempt.now)) }
 {
-    let kind = attempt.kind;
     stop_if(is_switched_off(view), Filter::Program)?;
     stop_if(attempt.is_outside(view.period), Filter::Period)?;
     stop_if(is_disabled(view), Filter::Disabled)?;
-    stop_if(is_acknowledged(view, kind), Filter::Acknowledged)?;
-    stop_if(depends(view, kind), Filter::Dependency)?;
+    stop_if(is_acknowledged(view, attempt.kind), Filter::Acknowledged)?;
+    stop_if(depends(view, attempt.kind), Filter::Dependency)?;
     stop_if(attempt.lacks_letter(view.options), Filter::Options)?;
-    stop_if(is_without_problem(view, kind), Filter::NoProblem)?;
+    stop_if(is_without_problem(view, attempt.kind), Filter::NoProblem)?;
     stop_if(is_within_delay(view, attempt), Filter::FirstDelay)?;
-    stop_if(is_flapping(view, kind), Filter::Flapping)?;
-    stop_if(is_down(view, kind), Filter::Downtime)?;
+    stop_if(is_flapping(view, attempt.kind), Filter::Flapping)?;
+    stop_if(is_down(view, attempt.kind), Filter::Downtime)?;
     stop_if(is_within_interval(view, attempt), Filter::Interval)?;
-    stop_if(is_held_by_host(view, kind), Filter::HostDown)
+    stop_if(is_held_by_host(view, attempt.kind), Filter::HostDown)
 }
 
 /// The program switch is off.
