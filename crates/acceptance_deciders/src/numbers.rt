@@ -36,10 +36,12 @@ impl Numbers {
             told: self.bit(),
             reset_wait: self.bit(),
             delay: self.bit(),
+            dep_pending: self.bit(),
             period_wait: self.bit(),
             downtime_wait: self.bit(),
             esc_other: self.bit(),
             at_results: self.bit(),
+            order: self.bit(),
         }
     }
 }
