@@ -19,11 +19,13 @@ has_state set state.Warning = set.warning
 has_state set state.Unknown = set.unknown
 has_state set state.Critical = set.critical
 
--- whether an entry with these states fails by its master's hard state: it is among them; by the daemon's rule a pending
--- master counts as one that is UP or OK
+-- the states by which an entry with these fails; by the daemon's rule a pending master counts as one that is UP or OK
+abbrev pub counted : (daemons : Bool) → StateSet → StateSet
+counted daemons set = if daemons then record set { pending = set.up || set.fine } else set
+
+-- whether an entry with these states fails by its master's hard state
 abbrev pub fails_at : (daemons : Bool) → StateSet → State → Bool
-fails_at daemons set s =
-    has_state (record set { pending = if daemons then set.up || set.fine else set.pending }) s
+fails_at daemons set s = has_state (counted daemons set) s
 
 -- An entry of object o fails at t where its period holds and the hard state of its master is among its states,
 -- or where it inherits and an entry of its master fails (chapter "Host and Service Dependencies"). A chain has

@@ -8,7 +8,7 @@ ghost use Rattle.due_model.specs.Rules.{attempted, attempted_by_state, attempted
 ghost use Rattle.due_model.specs.Rules.{attempted_by_flapping, downtime_kind, has_come, state_letter};
 ghost use Rattle.due_model.specs.Rules.{letter_of, has_letter, meets, with_letter, is_too_soon, next_notice, same_state};
 ghost use Rattle.due_model.specs.Rules.{is_problem, is_recovery, is_of_problem, is_of_downtime};
-ghost use Rattle.due_model.specs.Dependencies.{fails_at, has_state};
+ghost use Rattle.due_model.specs.Dependencies.{counted, fails_at, has_state};
 ghost use Rattle.due_model.specs.Histories.{number_after};
 
 use crate::config::{ObjectId, PeriodId};
@@ -69,13 +69,18 @@ impl StateSet {
     pub fn fails_at(&self, daemons: bool, state: State) -> bool
         ensures { result ≡ fails_at daemons self.now state }
     {
-        let pending = if daemons {
-            self.up || self.fine
-        } else {
-            self.pending
-        };
-        let states = StateSet { pending, ..*self };
-        states.contains(state)
+        self.counted(daemons).contains(state)
+    }
+
+    /// The states by which a dependency with these fails: by the daemon's rule, pending where UP or OK is among them.
+    fn counted(self, daemons: bool) -> StateSet
+        ensures { result ≡ counted daemons self }
+    {
+        let mut states = self;
+        if daemons {
+            states.pending = self.up || self.fine;
+        }
+        states
     }
 }
 

@@ -1,5 +1,5 @@
 use Rattle.std.proofs.Common.{rules}
-use Rattle.slow_rules.proofs.filters.contact_failing.Goals as goal
+use Rattle.slow_rules.proofs.filters.contact_failing_in_own_order.Goals as goal
 
 pub returns-then-not-contains : goal.returns-then-not-contains
 returns-then-not-contains c = search rules
