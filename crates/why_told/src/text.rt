@@ -373,7 +373,12 @@ fn push_new_stop(
         (text.new.items ≡ text.old.items ++ new_stop_text config.now clock.now stop.now) }
 {
     push_head(text, clock, stop.moment, stop.kind, stop.state, 0)?;
-    push_passed(text, config, stop.object, place_of(config.choices, stop.filter))?;
+    push_passed(
+        text,
+        config,
+        stop.object,
+        place_of(config.choices, stop.filter),
+    )?;
     push_stopped_row(text, config, stop)
 }
 
