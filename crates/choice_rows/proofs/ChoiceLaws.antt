@@ -168,8 +168,8 @@ module _ (c : Config) (is : c.choices ≡ own) where
     host_repeats = never_again;
     host_dep = λ zone o object e past.
         or_no (dependency_fails c zone (λ master. hard master (e ∷ past)) (moment (e ∷ past)) o) _ (and_no c.choices.host_dep _ (ap (λ (x : Choices). x.host_dep) is));
-    nobody = λ zone o object a number told standing. all_heard c zone o object a number told standing (ap (λ (x : Choices). x.nobody) is);
-    told = λ object k told. ap (λ (x : Choices). if x.told && (is_recovery k && is_some object.host) then Some told else None) is;
+    nobody = λ zone o object a number letters standing. all_heard c zone o object a number letters standing (ap (λ (x : Choices). x.nobody) is);
+    told = λ object k letters. ap (λ (x : Choices). if x.told && (is_recovery k && is_some object.host) then Some letters else None) is;
     waits = λ zone o object e past history. never_within o e past (ended c zone o object past history) (never_ended zone o object past history);
     delay = delayed_is;
     esc_other = λ zone o object a standing.
@@ -177,7 +177,7 @@ module _ (c : Config) (is : c.choices ≡ own) where
     at_results = λ ready. ap (λ (x : Choices). if x.at_results then None else ready) is;
     dep_pending = λ set s. ap (λ (x : Choices). fails_at x.dep_pending set s) is;
     order = λ zone v a. ap (λ (x : Choices). failing_by x.order c zone v a) is;
-    contact_order = λ zone rights a told. ap (λ (x : Choices). contact_failing_by x.order c zone rights a told) is;
+    contact_order = λ zone rights a letters. ap (λ (x : Choices). contact_failing_by x.order c zone rights a letters) is;
   }
 
 pub own_rules : OwnRulesKnowNoChoice

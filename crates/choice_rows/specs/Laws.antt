@@ -76,9 +76,10 @@ pub record KnowsNoChoice (c : Config) : Type 0 where
       ≡ dependency_fails c zone (λ master. hard master (e ∷ past)) (moment (e ∷ past)) o
   -- each notice counts, and a recovery doesn't ask what was told
   pub nobody : (zone : Zone) (o : ℕ) (object : Object) (a : Attempt) (number : ℕ)
-      (told : Option OptionLetters) (standing : ℕ)
-      → is_heard c zone o object a number told standing ≡ true
-  pub told : (object : Object) (k : Kind) (told : OptionLetters) → told_for c object k told ≡ None
+      (letters : Option OptionLetters) (standing : ℕ)
+      → is_heard c zone o object a number letters standing ≡ true
+  pub told : (object : Object) (k : Kind) (letters : OptionLetters)
+      → told_for c object k letters ≡ None
   -- the wait after the last notice runs on, and the first delay runs from where the problem began
   pub waits : (zone : Zone) (o : ℕ) (object : Object) (e : Event) (past : List Event)
       (history : List Outcome) → ended_at c zone o object e past history ≡ false
@@ -92,9 +93,9 @@ pub record KnowsNoChoice (c : Config) : Type 0 where
       → fails_at c.choices.dep_pending set s ≡ has_state set s
   pub order : (zone : Zone) (v : View) (a : Attempt)
       → failing c zone v a ≡ first_failing (in_own_order c zone v a)
-  pub contact_order : (zone : Zone) (rights : Rights) (a : Attempt) (told : Option OptionLetters)
-      → contact_failing c zone rights a told
-      ≡ first_failing (in_own_contact_order c zone rights a told)
+  pub contact_order : (zone : Zone) (rights : Rights) (a : Attempt)
+      (letters : Option OptionLetters) → contact_failing c zone rights a letters
+      ≡ first_failing (in_own_contact_order c zone rights a letters)
 
 abbrev pub OwnRulesKnowNoChoice : Type 0
 OwnRulesKnowNoChoice = (c : Config) → c.choices ≡ own → KnowsNoChoice c
