@@ -1,7 +1,6 @@
 -- The configuration that blocks give (chapter "Object Definitions").
 use Rattle.std.specs.Prelude.{◌≡◌, ℕ, List, [], length, map, slice_index_or}
 use Rattle.due_model.specs.declared.config.Config.{Config}
-use Rattle.due_model.specs.Choices as rules
 use Rattle.object_contacts.specs.Contacts.{AreContactsOf}
 use Rattle.object_contacts.specs.Lanes.{AreLanes, IsLane}
 use Rattle.object_dependencies.specs.Entries.{AreDependencies}
@@ -21,8 +20,7 @@ command_at blocks command = slice_index_or (names_in blocks Command) command []
 -- The configuration of blocks: hosts in file order and then services, block by block and within a block host by host;
 -- contacts and time periods in file order; the lanes, which are the commands that a registered contact names, in
 -- the order of their blocks; escalations, block by block and within a block object by object; and dependencies, block
--- by block and within a block dependent by dependent and master by master. Whose rules decide isn't said by blocks: it is
--- this project's.
+-- by block and within a block dependent by dependent and master by master. Whose rules decide isn't said by blocks.
 pub record IsConfigOf (blocks : List Block) (config : Config) : Type 0 where
   -- the hosts of each service block
   pub hosts : List (List ℕ)
@@ -33,7 +31,6 @@ pub record IsConfigOf (blocks : List Block) (config : Config) : Type 0 where
   -- the objects of which each escalation block speaks
   pub spoken : List (List ℕ)
   pub spoken_are : AreEscalated blocks hosts (length blocks) spoken
-  pub choices : config.choices ≡ rules.own
   pub objects : AreObjectsOf blocks hosts config.objects
   pub contacts : AreContactsOf blocks lanes config.contacts
   pub named : map (λ lane. lane.name) config.lanes ≡ map (command_at blocks) lanes

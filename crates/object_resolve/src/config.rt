@@ -153,10 +153,11 @@ fn dependencies_in<'a>(
     dependencies_of(alloc, templates, &blocks, &counts.pairs, periods)
 }
 
-/// The configuration of blocks that keep within the limits, where `tables` and `counts` are theirs. A refused
+/// The configuration of blocks that keep within the limits, where `tables` and `counts` are theirs, by these choices. A refused
 /// growth leaves nothing.
 pub(crate) fn config_of<'a>(
     alloc: Global,
+    choices: Choices,
     templates: &Templates<'a>,
     tables: &Tables<'a, '_>,
     counts: &Counts<'a>,
@@ -164,7 +165,8 @@ pub(crate) fn config_of<'a>(
     requires tables { AreTables templates.now tables.now }
     requires within { AreWithin templates.now }
     requires counts { AreCounts templates.now counts.now }
-    ensures { IfOk result (IsConfigOf templates.now) }
+    ensures config { IfOk result (IsConfigOf templates.now) }
+    ensures choices { IfOk result (λ config. config.choices ≡ choices) }
 {
     let lanes = counts.lanes.as_slice();
     let contacts = contacts_in(alloc, templates, tables.objects, lanes)?;
@@ -179,7 +181,7 @@ pub(crate) fn config_of<'a>(
     let escalations = escalations_in(alloc, templates, tables, counts, &objects, &listed)?;
     let dependencies = dependencies_in(alloc, templates, tables, counts)?;
     Ok(Config {
-        choices: Choices::own(),
+        choices,
         objects,
         contacts: Sequence::new(contacts),
         lanes: Sequence::new(named),
