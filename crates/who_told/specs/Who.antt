@@ -3,6 +3,7 @@ use Rattle.std.specs.Prelude.{◌≡◌, ℕ, ◌+◌, ◌*◌, Bool, true, fals
 use Rattle.std.specs.List.{list_any}
 use Rattle.std.specs.Option.{option_copied}
 use Rattle.std.specs.Io.KnownBytes.{Keeps}
+use Rattle.due_model.specs.declared.config.Choices.{Choices}
 use Rattle.due_model.specs.declared.config.Config.{Config}
 use Rattle.due_model.specs.declared.notice.Notice.{Notice}
 use Rattle.due_model.specs.declared.zone.Zone.{Zone}
@@ -15,7 +16,7 @@ use Rattle.made_feed.specs.Made.{made_feed}
 use Rattle.command_output.specs.Outcome.{IsWriteFault}
 use Rattle.command_output.specs.declared.outcome.Ending.{Ending}
 use Rattle.written.specs.Written.{Writes, WritesFront}
-use Rattle.command_input.specs.Objects.{CommandFails, IsTextOf}
+use Rattle.command_input.specs.Objects.{CommandFails, IsTextBy}
 use Rattle.replay.specs.Replay.{AreOfFeed}
 use Rattle.replay.specs.Report.{ending_after}
 use Rattle.line_forms.specs.declared.report_line.ReportLine.{ReportLine}
@@ -138,22 +139,22 @@ FailsFor can_fail s config zone (fault.Command command) old new =
 -- ---- for object text
 
 -- What was written is that, for the configuration of the object text.
-abbrev pub TellsWho : Supposed → (objects : List ℕ) → Zone → Ending → (old new : Option (List ℕ))
+abbrev pub TellsWho : Choices → Supposed → (objects : List ℕ) → Zone → Ending → (old new : Option (List ℕ))
     → Type 0
-TellsWho s objects zone ending old new =
-    (config : Config) × IsTextOf config objects × TellsKnown s config zone ending old new
+TellsWho choices s objects zone ending old new =
+    (config : Config) × IsTextBy choices config objects × TellsKnown s config zone ending old new
 
 -- what was written is a front of it
-abbrev pub TellsWhoFront : Supposed → (objects : List ℕ) → Zone → (old new : Option (List ℕ))
+abbrev pub TellsWhoFront : Choices → Supposed → (objects : List ℕ) → Zone → (old new : Option (List ℕ))
     → Type 0
-TellsWhoFront s objects zone old new =
-    (config : Config) × IsTextOf config objects × TellsBothFront s config zone old new
+TellsWhoFront choices s objects zone old new =
+    (config : Config) × IsTextBy choices config objects × TellsBothFront s config zone old new
 
 -- what a fault says: this is the first that isn't known, and nothing was written; or a front of it was at most
-abbrev pub FailsOf : Supposed → (can_fail : Bool) → (objects : List ℕ) → Zone → WhoFault
+abbrev pub FailsOf : Choices → Supposed → (can_fail : Bool) → (objects : List ℕ) → Zone → WhoFault
     → (old new : Option (List ℕ)) → Type 0
-FailsOf s can_fail objects zone (fault.Unknown unknown) old new =
-    (config : Config) × IsTextOf config objects × (unknown_in config s ≡ Some unknown)
+FailsOf choices s can_fail objects zone (fault.Unknown unknown) old new =
+    (config : Config) × IsTextBy choices config objects × (unknown_in config s ≡ Some unknown)
     × Keeps old new
-FailsOf s can_fail objects zone (fault.Command command) old new =
-    CommandFails can_fail objects command old new (TellsWhoFront s objects zone old new)
+FailsOf choices s can_fail objects zone (fault.Command command) old new =
+    CommandFails can_fail objects command old new (TellsWhoFront choices s objects zone old new)
