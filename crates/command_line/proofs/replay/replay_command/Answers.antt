@@ -2,7 +2,7 @@ use Rattle.std.proofs.Common.{ap, ap₂, ◌≡◌, ◌∙◌, codes}
 use Rattle.std.proofs.lemmas.Result.{IfOk-weaker}
 use Rattle.clap.specs.Simple.{app_of_fields}
 use Rattle.clap.specs.Words.{app_of, new_app, with_rule}
-use Rattle.command_line.specs.Words.{with_shown, with_zone}
+use Rattle.command_line.specs.Words.{with_shown, with_site}
 use Rattle.command_line.proofs.replay.replay_command.Goals as goal
 
 pub returns : goal.returns
@@ -10,4 +10,4 @@ returns c =
     let bare : app_of c.long_about.result ≡ new_app (codes "replay") = ap app_of_fields c.long_about.ensures ∙ ap app_of_fields c.about.ensures ∙ c.new.ensures.app in
     let added = c.in_ok-command.ensures.shape c.text_option-objects.ensures.local ∙ ap₂ with_rule bare c.text_option-objects.ensures.rule in
     let shown = c.in_ok-with_shown.ensures.words ∙ ap with_shown added in
-    record { words = IfOk-weaker c.with_zone.result _ _ (λ r h. h ∙ ap with_zone shown) c.with_zone.ensures.words }
+    record { words = IfOk-weaker c.with_site.result _ _ (λ r h. h ∙ ap with_site shown) c.with_site.ensures.words }
