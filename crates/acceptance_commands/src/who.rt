@@ -1,6 +1,7 @@
 //! Who would be told, and who wouldn't, over a writer in memory.
 
 use command_output::Ending;
+use due_model::config::Choices;
 use due_model::zone::Zone;
 use made_feed::Supposed;
 use std::test::Fail;
@@ -49,7 +50,14 @@ const WEB: Supposed<'static> = Supposed {
 #[test]
 fn of_a_host(rt: HostRuntime) -> Result<(), Fail> {
     let mut out = Vec::new(rt.alloc());
-    let ended = who(rt.alloc(), &Zone::Utc, OBJECTS.as_bytes(), &WEB, &mut out);
+    let ended = who(
+        rt.alloc(),
+        Choices::own(),
+        &Zone::Utc,
+        OBJECTS.as_bytes(),
+        &WEB,
+        &mut out,
+    );
     assert_eq!(&rt;
         (ended, out.as_slice()),
         (Ok(Ending::Whole), TABLE.as_bytes())
@@ -66,6 +74,7 @@ fn of_one_that_is_unknown(rt: HostRuntime) -> Result<(), Fail> {
     };
     let ended = who(
         rt.alloc(),
+        Choices::own(),
         &Zone::Utc,
         OBJECTS.as_bytes(),
         &supposed,

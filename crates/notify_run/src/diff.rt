@@ -6,6 +6,7 @@ ghost use Rattle.texts_compared.specs.Fault.{compare_status};
 
 use changed_notices::ChangeForm;
 use command_output::{AnyWriter, CommandFault, Ending};
+use due_model::config::Choices;
 use due_model::zone::Zone;
 use std::fs::File;
 use std::process::ExitCode;
@@ -25,6 +26,7 @@ fn status_of_comparison<R: Eprint>(rt: &R, outcome: Result<Ending, CompareFault>
 /// Writes what the change from the object text of one file to that of another does to the notices of the feed on standard input.
 fn do_diff(
     rt: &HostRuntime,
+    choices: Choices,
     zone: &Zone,
     objects: &str,
     changed: &str,
@@ -40,12 +42,22 @@ fn do_diff(
     let after = AnyReader::new(after);
     let feed = AnyReader::new(rt.stdin());
     let mut writer = AnyWriter::new(rt.stdout());
-    compare_files(rt.alloc(), zone, before, after, feed, form, &mut writer)
+    compare_files(
+        rt.alloc(),
+        choices,
+        zone,
+        before,
+        after,
+        feed,
+        form,
+        &mut writer,
+    )
 }
 
 /// Does it, and gives the exit status.
 pub(crate) fn status_of_diff(
     rt: &HostRuntime,
+    choices: Choices,
     zone: &Zone,
     objects: &str,
     changed: &str,
@@ -56,5 +68,5 @@ pub(crate) fn status_of_diff(
     } else {
         ChangeForm::Plain
     };
-    status_of_comparison(rt, do_diff(rt, zone, objects, changed, form))
+    status_of_comparison(rt, do_diff(rt, choices, zone, objects, changed, form))
 }

@@ -1,11 +1,12 @@
 //! The program `notify-run`: its command line, and how each command ends.
 #![tactic(auto)]
 
-ghost use Rattle.std.specs.Prelude.{◌≡◌, ◌<◌, true};
+ghost use Rattle.std.specs.Prelude.{◌≡◌, ◌<◌, true, None};
 ghost use Rattle.std.specs.Process.{exit_status};
 ghost use Rattle.clap.specs.Values.{kind_of};
 ghost use Rattle.command_output.specs.Outcome.{outcome_status};
 ghost use Rattle.command_line.specs.Words.{AreSettingsFit, AreTwo, asks_bad_letters, asks_two_forms, lacks_feed, request_zone};
+ghost use Rattle.notify_run.specs.Choices.{chosen_by};
 ghost use Rattle.notify_run.specs.Refusal.{refusal_status};
 ghost use Rattle.notify_run.specs.Shown.{ArePickedBy, AreShownBy};
 ghost use Rattle.notify_run.specs.Zones.{IsBadRule};
@@ -20,9 +21,11 @@ mod why;
 mod zones;
 
 use clap::error::ErrorKind;
-use command_line::{Request, ShownWords, command, request_of};
+use choice_words::choices_of;
+use command_line::{Request, ShownWords, ZoneWords, command, request_of};
 use command_output::{AnyWriter, CommandFault, Ending, exit_status};
 use diff::status_of_diff;
+use due_model::config::Choices;
 use due_model::zone::Zone;
 use feeds::status_of_feed;
 use line_forms::Picks;
@@ -82,18 +85,19 @@ fn status_of_refusal<R: Print + Eprint>(rt: &R, error: &clap::Error) -> ExitCode
 /// the form that is asked for. A terminal at standard error shows how far it is.
 fn do_replay(
     rt: &HostRuntime,
+    choices: Choices,
     zone: &Zone,
     objects: Option<&str>,
     words: ShownWords<'_>,
 ) -> Result<Ending, CommandFault> {
     let mut line = ProgressLine::new(rt, rt.stderr().is_terminal());
     let outcome = if words.is_plain() {
-        replay_through(rt, zone, objects, &mut line)
+        replay_through(rt, choices, zone, objects, &mut line)
     } else if words.pretty {
-        pretty_through(rt, zone, objects, picks_of(words), &mut line)
+        pretty_through(rt, choices, zone, objects, picks_of(words), &mut line)
     } else {
         let shown = shown_lines(rt.alloc(), words);
-        show_through(rt, zone, objects, shown, &mut line)
+        show_through(rt, choices, zone, objects, shown, &mut line)
     };
     line.finish();
     outcome
@@ -102,6 +106,7 @@ fn do_replay(
 /// Writes all of the report, where somebody watches.
 fn replay_through<P: Watcher>(
     rt: &HostRuntime,
+    choices: Choices,
     zone: &Zone,
     objects: Option<&str>,
     watcher: &mut P,
@@ -110,13 +115,13 @@ fn replay_through<P: Watcher>(
     let input = AnyReader::new(rt.stdin());
     let mut writer = AnyWriter::new(rt.stdout());
     let Some(path) = objects else {
-        return replay_in(alloc, zone, input, &mut writer, watcher);
+        return replay_in(alloc, choices, zone, input, &mut writer, watcher);
     };
     let Ok(file) = File::open(rt, path) else {
         return Err(CommandFault::Unreadable);
     };
     let objects = AnyReader::new(file);
-    replay_files(alloc, zone, objects, input, &mut writer, watcher)
+    replay_files(alloc, choices, zone, objects, input, &mut writer, watcher)
 }
 
 /// Which lines are wanted.
@@ -146,6 +151,7 @@ fn shown_lines(alloc: Global, words: ShownWords<'_>) -> ShownLines<'_>
 /// Writes those lines, where somebody watches.
 fn show_through<P: Watcher>(
     rt: &HostRuntime,
+    choices: Choices,
     zone: &Zone,
     objects: Option<&str>,
     shown: ShownLines<'_>,
@@ -155,18 +161,28 @@ fn show_through<P: Watcher>(
     let input = AnyReader::new(rt.stdin());
     let mut writer = AnyWriter::new(rt.stdout());
     let Some(path) = objects else {
-        return show_in(alloc, zone, input, shown, &mut writer, watcher);
+        return show_in(alloc, choices, zone, input, shown, &mut writer, watcher);
     };
     let Ok(file) = File::open(rt, path) else {
         return Err(CommandFault::Unreadable);
     };
     let objects = AnyReader::new(file);
-    show_files(alloc, zone, objects, input, shown, &mut writer, watcher)
+    show_files(
+        alloc,
+        choices,
+        zone,
+        objects,
+        input,
+        shown,
+        &mut writer,
+        watcher,
+    )
 }
 
 /// Does a trace.
 fn do_trace(
     rt: &HostRuntime,
+    choices: Choices,
     zone: &Zone,
     settings: Settings,
     standbys: u8,
@@ -175,7 +191,15 @@ fn do_trace(
 {
     let input = AnyReader::new(rt.stdin());
     let mut writer = AnyWriter::new(rt.stdout());
-    trace_in(rt.alloc(), zone, settings, standbys, input, &mut writer)
+    trace_in(
+        rt.alloc(),
+        choices,
+        zone,
+        settings,
+        standbys,
+        input,
+        &mut writer,
+    )
 }
 
 /// Says on standard error what is wrong of a command line, and gives the exit status.
@@ -200,8 +224,18 @@ fn status_of_run<R: Eprint>(rt: &R, outcome: Result<Ending, RunFault<'_>>) -> Ex
     }
 }
 
-/// Does what is asked, and gives the exit status. Letters and forms of lines are looked at before the zone is read, and that before
-/// anything else. The handle is of the machine, and again
+/// Whose rules decide by the words of a command line. None, where a word says no choice.
+fn choices_asked(words: ZoneWords<'_, '_>) -> Option<Choices>
+    ensures { result ≡ chosen_by words.entry }
+{
+    match words.choose {
+        Some(texts) => choices_of(words.as_nagios, texts),
+        None => choices_of(words.as_nagios, &[]),
+    }
+}
+
+/// Does what is asked, and gives the exit status. Letters and forms of lines and the choices are looked at before the zone is read, and
+/// that before anything else. The handle is of the machine, and again
 /// that by which threads are started.
 fn status_of_request<T: Threads + Wait + Clock + Sync>(
     rt: &HostRuntime,
@@ -214,6 +248,7 @@ fn status_of_request<T: Threads + Wait + Clock + Sync>(
     ensures letters { asks_bad_letters request.entry ≡ true → exit_status result ≡ 2 }
     ensures feed { lacks_feed request.entry ≡ true → exit_status result ≡ 2 }
     ensures forms { asks_two_forms request.entry ≡ true → exit_status result ≡ 2 }
+    ensures choice { chosen_by (request_zone request.entry) ≡ None → exit_status result ≡ 2 }
 {
     if request.asks_bad_letters() {
         return status_of_words(rt, "bad letters");
@@ -225,27 +260,30 @@ fn status_of_request<T: Threads + Wait + Clock + Sync>(
         return status_of_words(rt, "two forms");
     }
     let words = request.zone();
+    let Some(choices) = choices_asked(words) else {
+        return status_of_words(rt, "bad choice");
+    };
     let zone = match zone_asked(rt, words) {
         Ok(zone) => zone,
         Err(fault) => return status_of_zone(rt, words, fault),
     };
     let outcome = match request {
-        Request::Replay { objects, shown, .. } => do_replay(rt, &zone, objects, shown),
+        Request::Replay { objects, shown, .. } => do_replay(rt, choices, &zone, objects, shown),
         Request::Trace {
             settings,
             standbys,
             ..
-        } => do_trace(rt, &zone, settings, standbys),
+        } => do_trace(rt, choices, &zone, settings, standbys),
         Request::Who { objects, asked, .. } => {
-            return status_of_who(rt, threads, &zone, objects, asked);
+            return status_of_who(rt, threads, choices, &zone, objects, asked);
         }
         Request::Diff {
             objects,
             changed,
             json,
             ..
-        } => return status_of_diff(rt, &zone, objects, changed, json),
-        Request::Why { objects, asked, .. } => return status_of_why(rt, &zone, objects, asked),
+        } => return status_of_diff(rt, choices, &zone, objects, changed, json),
+        Request::Why { objects, asked, .. } => return status_of_why(rt, choices, &zone, objects, asked),
         Request::Run {
             objects,
             settings,
@@ -258,6 +296,7 @@ fn status_of_request<T: Threads + Wait + Clock + Sync>(
             ..
         } => {
             let settings = RunSettings {
+                choices,
                 settings,
                 timeout: times.timeout,
                 pause: times.pause,

@@ -9,6 +9,7 @@ ghost use Rattle.who_told.specs.Fault.{who_status};
 use crate::{status_of, status_of_words};
 use command_line::WhoWords;
 use command_output::{AnyWriter, CommandFault, Ending};
+use due_model::config::Choices;
 use due_model::limits::LAST_MOMENT;
 use due_model::zone::Zone;
 use given_times::{minutes_given, moment_given};
@@ -80,6 +81,7 @@ fn status_of_told<R: Eprint>(rt: &R, outcome: Result<Ending, WhoFault<'_>>) -> E
 /// Writes who would be told of what is asked, from the moment on, for so many minutes.
 fn do_who<'a>(
     rt: &HostRuntime,
+    choices: Choices,
     zone: &Zone,
     objects: &str,
     asked: WhoWords<'a, 'a>,
@@ -97,13 +99,21 @@ fn do_who<'a>(
     let supposed = supposed_of(down, host, service, asked.state, moment, minutes);
     let objects = AnyReader::new(file);
     let mut writer = AnyWriter::new(rt.stdout());
-    who(rt.alloc(), zone, objects, &supposed, &mut writer)
+    who(
+        rt.alloc(),
+        choices,
+        zone,
+        objects,
+        &supposed,
+        &mut writer,
+    )
 }
 
 /// Writes who would be told of what is asked, and gives the exit status. Its times are looked at before anything else.
 pub(crate) fn status_of_who<T: Clock>(
     rt: &HostRuntime,
     clock: &T,
+    choices: Choices,
     zone: &Zone,
     objects: &str,
     asked: WhoWords<'_, '_>,
@@ -115,7 +125,7 @@ pub(crate) fn status_of_who<T: Clock>(
         return status_of_words(rt, "bad time");
     };
     match minutes_given(asked.lasting) {
-        Some(minutes) => status_of_told(rt, do_who(rt, zone, objects, asked, moment, minutes)),
+        Some(minutes) => status_of_told(rt, do_who(rt, choices, zone, objects, asked, moment, minutes)),
         None => status_of_words(rt, "bad length"),
     }
 }

@@ -84,7 +84,7 @@ pub fn do_logged_run<'m, 'a, T: Threads + Wait + Clock + Sync, R: Input + Drop, 
         rt,
         words.objects,
         words.channels,
-        settings.limit(),
+        settings,
     )?;
     let done = log_through(
         rt,
