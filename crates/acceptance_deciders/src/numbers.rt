@@ -42,6 +42,7 @@ impl Numbers {
             esc_other: self.bit(),
             at_results: self.bit(),
             order: self.bit(),
+            contact_none: self.bit(),
         }
     }
 }

@@ -18,6 +18,7 @@ own = record {
   esc_other = false;
   at_results = false;
   order = false;
+  contact_none = false;
 }
 
 -- the daemon's
@@ -36,4 +37,5 @@ nagios = record {
   esc_other = true;
   at_results = true;
   order = true;
+  contact_none = true;
 }

@@ -234,6 +234,9 @@ pub struct Choices {
     /// Which filter is named, where several fail. Here downtime and flapping are asked before the options and the period. The
     /// daemon asks for the period first, and for flapping and downtime last.
     pub order: bool,
+    /// A contact whose object text has no option list. Here it is told of everything. By the daemon it is told of nothing
+    /// (chapter "Object Definitions" asks for the list). Object text is read by it; nothing here asks for it again.
+    pub contact_none: bool,
 }
 
 impl Choices {
@@ -255,6 +258,7 @@ impl Choices {
             esc_other: false,
             at_results: false,
             order: false,
+            contact_none: false,
         }
     }
 
@@ -276,6 +280,7 @@ impl Choices {
             esc_other: true,
             at_results: true,
             order: true,
+            contact_none: true,
         }
     }
 }
