@@ -4,7 +4,7 @@ use Rattle.std.specs.Str.{bytes_eq}
 use Rattle.due_model.specs.declared.config.Choices.{Choices}
 use Rattle.due_model.specs.Choices.{nagios, own}
 use Rattle.choice_words.specs.declared.field.Field.{Field}
-use Rattle.choice_words.specs.declared.field.Field.TheVariants.{HostDown, HostRepeats, HostDep, Nobody, Told, ResetWait, Delay, DepPending, PeriodWait, DowntimeWait, EscOther, AtResults, Order}
+use Rattle.choice_words.specs.declared.field.Field.TheVariants.{HostDown, HostRepeats, HostDep, Nobody, Told, ResetWait, Delay, DepPending, PeriodWait, DowntimeWait, EscOther, AtResults, Order, ContactNone}
 use Rattle.choice_words.specs.declared.word.ChoiceWord.{ChoiceWord}
 
 -- the choices with the daemon's rule in a field, or this project's
@@ -22,6 +22,7 @@ with_field choices DowntimeWait daemons = record choices { downtime_wait = daemo
 with_field choices EscOther daemons = record choices { esc_other = daemons }
 with_field choices AtResults daemons = record choices { at_results = daemons }
 with_field choices Order daemons = record choices { order = daemons }
+with_field choices ContactNone daemons = record choices { contact_none = daemons }
 
 -- a field, and whose rule decides in it
 abbrev pub so : Field → (daemons : Bool) → Option ChoiceWord
@@ -56,6 +57,8 @@ said word =
     else if bytes_eq word (codes "at_results=nagios") then so AtResults true
     else if bytes_eq word (codes "order=own") then so Order false
     else if bytes_eq word (codes "order=nagios") then so Order true
+    else if bytes_eq word (codes "contact_none=own") then so ContactNone false
+    else if bytes_eq word (codes "contact_none=nagios") then so ContactNone true
     else None
 
 -- the choices after words, one after another; none, where one says nothing

@@ -34,6 +34,8 @@ pub enum Field {
     AtResults,
     /// Which filter is named, where several fail.
     Order,
+    /// A contact that lists no options.
+    ContactNone,
 }
 
 /// The choices with the daemon's rule in a field, or this project's.
@@ -55,6 +57,7 @@ pub(crate) fn with_field(choices: Choices, field: Field, daemons: bool) -> Choic
         Field::EscOther => chosen.esc_other = daemons,
         Field::AtResults => chosen.at_results = daemons,
         Field::Order => chosen.order = daemons,
+        Field::ContactNone => chosen.contact_none = daemons,
     }
     chosen
 }

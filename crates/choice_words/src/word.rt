@@ -75,6 +75,10 @@ pub(crate) fn said(word: &str) -> Option<ChoiceWord>
         so(Field::Order, false)
     } else if word == "order=nagios" {
         so(Field::Order, true)
+    } else if word == "contact_none=own" {
+        so(Field::ContactNone, false)
+    } else if word == "contact_none=nagios" {
+        so(Field::ContactNone, true)
     } else {
         None
     }

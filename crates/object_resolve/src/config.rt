@@ -35,9 +35,11 @@ use object_periods::periods::periods_of;
 use object_settings::objects::objects_of;
 use std::alloc::{AllocError, Global};
 
-/// The contacts, where `lanes` are the commands of the lanes.
+/// The contacts, where `lanes` are the commands of the lanes; what one has that lists no options, by this project's rule or
+/// the daemon's.
 fn contacts_in<'a>(
     alloc: Global,
+    daemons: bool,
     templates: &Templates<'a>,
     objects: &NamedObjects<'a>,
     lanes: &[usize],
@@ -45,12 +47,14 @@ fn contacts_in<'a>(
     requires objects { objects.now ≡ templates.now }
     requires few { AreFewOthers templates.now }
     requires few_lanes { length lanes.now ≤ max_lanes }
-    ensures { IfOk result (λ made. AreContactsOf templates.now lanes.now made.items) }
+    ensures { IfOk result (λ made. AreContactsOf daemons templates.now lanes.now made.items) }
 {
     let contacts = objects.objects(NamedKind::Contact);
     let commands = objects.objects(NamedKind::Command);
     let periods = objects.objects(NamedKind::TimePeriod);
-    contacts_of(alloc, templates, contacts, commands, periods, lanes)
+    contacts_of(
+        alloc, daemons, templates, contacts, commands, periods, lanes,
+    )
 }
 
 /// The lanes, by the names of their commands.
@@ -169,7 +173,13 @@ pub(crate) fn config_of<'a>(
     ensures choices { IfOk result (λ config. config.choices ≡ choices) }
 {
     let lanes = counts.lanes.as_slice();
-    let contacts = contacts_in(alloc, templates, tables.objects, lanes)?;
+    let contacts = contacts_in(
+        alloc,
+        choices.contact_none,
+        templates,
+        tables.objects,
+        lanes,
+    )?;
     let named = lanes_in(alloc, tables.objects, lanes)?;
     let periods = periods_of(
         alloc,
