@@ -132,7 +132,8 @@ fn host_holds(reading: &Reading<'_>, statuses: &Statuses, object: ObjectId) -> b
         → slice_get reading.now.rules.config.now.objects object.0 ≡ Some settings
         → result ≡ host_holds reading.now.rules.config.now settings (e ∷ past) }
 {
-    reading.rules.config.choices.host_down && is_host_problem(reading, statuses, object)
+    let problem = is_host_problem(reading, statuses, object);
+    reading.rules.config.choices.host_down && problem
 }
 
 /// Whether the host of a service isn't UP, the event counted; of a host it is false.

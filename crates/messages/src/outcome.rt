@@ -163,6 +163,13 @@ fn counts(choices: Choices, passes: bool) -> bool
     !choices.nobody || passes
 }
 
+/// Whether one of two is so.
+fn either(one: bool, other: bool) -> bool
+    ensures { result ≡ (one || other) }
+{
+    one || other
+}
+
 /// Appends what each of these contacts has of a notification, in their order. Whether the filters of one of them pass.
 fn add_to_receivers(
     config: &Config,
@@ -181,7 +188,7 @@ fn add_to_receivers(
     let mut one_passes = false;
     for contact in receivers {
         let passes = add_to_contact(config, message, *contact, entries)?;
-        one_passes |= passes;
+        one_passes = either(one_passes, passes);
     }
     Ok(one_passes)
 }

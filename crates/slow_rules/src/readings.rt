@@ -166,7 +166,9 @@ pub(crate) fn switched_at(object: ObjectId, event: &Event, past: &[Event]) -> Op
 pub(crate) fn takes_back(object: ObjectId, event: &Event, past: &[Event]) -> bool
     ensures { result ≡ takes_back object.0 event.now (reverse past.now) }
 {
-    event.kind.is_removal_of(object) && acknowledgement(object, past).is_some()
+    let removal = event.kind.is_removal_of(object);
+    let acked = acknowledgement(object, past).is_some();
+    removal && acked
 }
 
 /// The last hard state of the object after an event and those before it.

@@ -1,6 +1,6 @@
 //! Whom a notice goes to, and whether it counts.
 
-ghost use Rattle.std.specs.Prelude.{◌≡◌, ◌≤◌, ◌&&◌, IfOk, length, map};
+ghost use Rattle.std.specs.Prelude.{◌≡◌, ◌≤◌, ◌&&◌, ◌||◌, IfOk, length, map};
 ghost use Rattle.std.specs.List.{list_any};
 ghost use Rattle.due_model.specs.Accepted.{IsAccepted};
 ghost use Rattle.due_model.specs.Escalations.{contacts_with, has_contact, reach};
@@ -172,12 +172,19 @@ fn one_passes(
         ≡ list_any (λ contact. passes subject.now.config.now subject.now.zone.now
         subject.now.object.now attempt told contact.0) contacts.now) }
 {
+    let mut found = false;
     for contact in contacts {
-        if passes(alloc, subject, attempt, told, *contact)? {
-            return Ok(true);
-        }
+        let pass = passes(alloc, subject, attempt, told, *contact)?;
+        found = either(found, pass);
     }
-    Ok(false)
+    Ok(found)
+}
+
+/// Whether one of two is so.
+fn either(one: bool, other: bool) -> bool
+    ensures { result ≡ (one || other) }
+{
+    one || other
 }
 
 /// Whether a notice counts: always; by the daemon's rule, where it reaches somebody.

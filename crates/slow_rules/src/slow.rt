@@ -44,11 +44,13 @@ fn find_answers(
         let past = &events[..index];
         let so_far = history.as_slice();
         let now = outcome(alloc, subject, event, past, so_far, over, released)?;
-        over = is_over(alloc, subject, event, past, so_far, now, over)?;
-        released = released_after(subject, event, past, now, released);
+        let ends = is_over(alloc, subject, event, past, so_far, now, over)?;
+        let freed = released_after(subject, event, past, now, released);
         let number = index as u64;
         add_answers(alloc, subject, lane, number, now, &mut answers)?;
         history.push(now)?;
+        over = ends;
+        released = freed;
     }
     Ok(answers)
 }

@@ -15,7 +15,7 @@ returns-then-is_repeated c = λ settings o at.
     let here = settings_read c.args.reading.now.rules.config.now.objects c.as_slice.result.now c.args.service.0 c.from.result _ settings c.as_slice.ensures c.from.ensures at in
     turned choices.host_repeats (names settings.host o) (is_problem_state s) (same_state s _)
     ∙ ap (λ (status : ObjectStatus). choices.host_repeats && (is_problem_state s && same_state s status.state) && names settings.host o) (sym c.at.ensures)
-    ∙ ap (λ (b : Bool). b && names settings.host o) (sym c.if-is_repeated.ensures)
+    ∙ ap (λ (b : Bool). b && names settings.host o) (sym c.is_repeated.ensures ∙ c.if-is_repeated.true)
     ∙ ap (λ (x : Object). names x.host o) (sym here)
 
 pub returns-else-is_repeated : goal.returns-else-is_repeated
@@ -24,4 +24,4 @@ returns-else-is_repeated c = λ settings o at.
     let s = c.args.state in
     turned choices.host_repeats (names settings.host o) (is_problem_state s) (same_state s _)
     ∙ ap (λ (status : ObjectStatus). choices.host_repeats && (is_problem_state s && same_state s status.state) && names settings.host o) (sym c.at.ensures)
-    ∙ ap (λ (b : Bool). b && names settings.host o) (sym c.if-is_repeated.ensures)
+    ∙ ap (λ (b : Bool). b && names settings.host o) (sym c.is_repeated.ensures ∙ c.if-is_repeated.false)

@@ -43,12 +43,12 @@ loop-index-preserved c =
       due = c.in_ok-add_answers.ensures.due ∙ ap (λ xs. xs ++ notices config zone o settings c.args.lane.0 i now) so_far.due ∙ due_more config zone o settings c.args.lane.0 events i none history now c.loop-index-test.true so_far.history value;
       suppressed = c.in_ok-add_answers.ensures.suppressed ∙ ap (λ xs. xs ++ suppressions config zone o settings i now) so_far.suppressed ∙ suppressed_more config zone o settings events i none history now c.loop-index-test.true so_far.history value;
       history = ap reverse c.in_ok-push.ensures.items ∙ hist_more config zone o settings events i none history now c.loop-index-test.true so_far.history value;
-      over = over_more config zone o settings events i none history now c.in_ok-over.over c.loop-index-test.true
-          (c.in_ok-over.ensures (so_far.over ∙ ap (λ xs. ended config zone o settings (reverse (take i events)) (reverse xs)) (sym c.as_slice-so_far.ensures.value))
+      over = over_more config zone o settings events i none history now c.in_ok-ends.ends c.loop-index-test.true
+          (c.in_ok-ends.ensures (so_far.over ∙ ap (λ xs. ended config zone o settings (reverse (take i events)) (reverse xs)) (sym c.as_slice-so_far.ensures.value))
           ∙ ap (λ xs. ended config zone o settings (get_or events i none ∷ reverse (take i events)) (now ∷ reverse xs)) c.as_slice-so_far.ensures.value)
           ∙ ap (λ xs. ended config zone o settings (reverse (take (i + 1) events)) (reverse xs)) (sym c.in_ok-push.ensures.items);
-      released = released_more o events i none history now c.released_after-released.result c.loop-index-test.true
-          (c.released_after-released.ensures ∙ ap (λ (m : Option ℕ). released_by (is_of_problem_attempt now) (takes_back o (get_or events i none) (reverse (take i events))) (moment (get_or events i none ∷ reverse (take i events))) m) so_far.released)
+      released = released_more o events i none history now c.released_after-freed.result c.loop-index-test.true
+          (c.released_after-freed.ensures ∙ ap (λ (m : Option ℕ). released_by (is_of_problem_attempt now) (takes_back o (get_or events i none) (reverse (take i events))) (moment (get_or events i none ∷ reverse (take i events))) m) so_far.released)
           ∙ ap (λ xs. released o (reverse (take (i + 1) events)) (reverse xs)) (sym c.in_ok-push.ensures.items);
       length = c.in_ok-push.ensures.len ∙ ap (λ n. n + 1) so_far.length;
       in_range = All-same IsInRange c.push.new.self.items (history ++ now ∷ []) c.in_ok-push.ensures.items (All-push IsInRange history now so_far.in_range c.in_ok-now.ensures.in_range);
