@@ -1,6 +1,6 @@
 //! The object text at the head of an input, or of a file.
 
-ghost use Rattle.std.specs.Prelude.{◌<◌, IfErr, IfOk};
+ghost use Rattle.std.specs.Prelude.{◌≡◌, ◌<◌, IfErr, IfOk};
 ghost use Rattle.std.specs.Option.{option_copied};
 ghost use Rattle.due_model.specs.Accepted.{IsAccepted};
 ghost use Rattle.command_input.specs.Objects.{FileFails, GivesObjects, GivesText, IsFileOf};
@@ -28,6 +28,7 @@ fn read_config<R: Input + Drop>(
 ) -> Result<Config, CommandFault>
     requires { mark_length (option_copied mark) < text_limit }
     ensures accepted { IfOk result (λ config. IsAccepted config) }
+    ensures choices { IfOk result (λ config. config.choices ≡ choices) }
     ensures config { IfOk result (λ config.
         GivesText (option_copied mark.entry) choices config (to_come lines.old) (to_come lines.new)) }
     ensures fault { IfErr result (λ fault.
@@ -50,6 +51,7 @@ pub fn read_objects<R: Input + Drop>(
     lines: &mut LineReader<R>,
 ) -> Result<Config, CommandFault>
     ensures accepted { IfOk result (λ config. IsAccepted config) }
+    ensures choices { IfOk result (λ config. config.choices ≡ choices) }
     ensures config { IfOk result (λ config.
         GivesObjects choices config (to_come lines.old) (to_come lines.new)) }
     ensures fault { IfErr result (λ fault. ObjectsFail R.can_fail fault (to_come lines.old)) }
@@ -65,6 +67,7 @@ pub fn read_object_file<R: Input + Drop>(
     reader: R,
 ) -> Result<Config, CommandFault>
     ensures accepted { IfOk result (λ config. IsAccepted config) }
+    ensures choices { IfOk result (λ config. config.choices ≡ choices) }
     ensures config { IfOk result (λ config. IsFileOf choices config (R.remaining reader)) }
     ensures fault { IfErr result (λ fault. FileFails R.can_fail fault (R.remaining reader)) }
 {

@@ -43,15 +43,17 @@ ChecksFail choices can_fail known names (Command fault) = FileFails can_fail fau
 pub record AreChecked (choices : Choices) (known : Option (List ℕ)) (names : List (List ℕ)) (config : Config)
     (lanes : List LaneId) : Type 0 where
   pub accepted : IsAccepted config
+  pub by : config.choices ≡ choices
   pub text : IsFileOf choices config known
   pub lanes_are : AreLanesOf config names lanes
 
 -- What was right before the channels were opened: the shape of the texts of all words and, by this accepted configuration,
--- their names, which are of these lanes.
-pub record AreRight (texts : List (List ℕ)) (config : Config) (lanes : List LaneId) : Type 0 where
+-- which has these choices, their names, which are of these lanes.
+pub record AreRight (choices : Choices) (texts : List (List ℕ)) (config : Config) (lanes : List LaneId) : Type 0 where
   pub words : List ChannelWord
   pub read : AreRead texts words
   pub accepted : IsAccepted config
+  pub by : config.choices ≡ choices
   pub lanes_are : AreLanesOf config (names_of words) lanes
 
 -- First the shape of the texts of all words; the rest is only looked at where that is right.
