@@ -7,5 +7,8 @@ returns-then-not-contains c = search rules
 pub returns-then-not-branch : goal.returns-then-not-branch
 returns-then-not-branch c = search rules
 
-pub returns-else-not-branch : goal.returns-else-not-branch
-returns-else-not-branch c = search rules
+pub returns-then-is_untold : goal.returns-then-is_untold
+returns-then-is_untold c = search rules
+
+pub returns-else-is_untold : goal.returns-else-is_untold
+returns-else-is_untold c = search rules
