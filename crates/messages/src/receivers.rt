@@ -1,7 +1,8 @@
 //! Who receives a notification.
 
-ghost use Rattle.std.specs.Prelude.{◌≡◌, ◌++◌, slice_get, OnOk, Some};
+ghost use Rattle.std.specs.Prelude.{◌≡◌, ◌++◌, ◌&&◌, slice_get, OnOk, Some};
 ghost use Rattle.due_model.specs.declared.config.Object.{Object};
+ghost use Rattle.due_model.specs.Readings.{is_problem_state};
 ghost use Rattle.due_model.specs.Receivers.{others, receivers};
 ghost use Rattle.due_model.specs.Escalations.{reach};
 ghost use Rattle.escalation.specs.Named.{contact_ids};
@@ -10,9 +11,10 @@ ghost use Rattle.messages.specs.Message.{IsMessage};
 ghost use Rattle.outcomes.specs.Rules.{AreRules};
 
 use crate::message::Message;
-use due_model::config::ContactId;
+use due_model::config::{Choices, ContactId};
 use due_model::notice::Kind;
 use due_model::options::OptionLetter;
+use due_model::state::State;
 use escalation::contacts::{contacts, own_contacts};
 use outcomes::rules::Rules;
 use std::alloc::{AllocError, Global};
@@ -71,7 +73,7 @@ fn add_others(
         settings (plain message.now.attempt) message.now.standing)) }
 {
     let state = message.attempt.state;
-    if rules.config.choices.esc_other && state.is_problem() {
+    if is_escalated(rules.config.choices, state) {
         add_reached(
             alloc,
             rules,
@@ -83,6 +85,13 @@ fn add_others(
     } else {
         own_contacts(alloc, rules.config, message.object, told)
     }
+}
+
+/// Whether flapping and downtimes are escalated in this state.
+fn is_escalated(choices: Choices, state: State) -> bool
+    ensures { result ≡ (choices.esc_other && is_problem_state state) }
+{
+    choices.esc_other && state.is_problem()
 }
 
 /// Appends whom a notification of this number and letter reaches at the message's moment.

@@ -1,7 +1,7 @@
 //! What becomes of an attempt.
 
 ghost use Rattle.std.specs.Prelude.{◌≡◌, ◌≤◌, ◌<◌, ◌+◌, ◌^◌, ◌&&◌};
-ghost use Rattle.std.specs.Prelude.{length, slice_get, true, IfSome, Some};
+ghost use Rattle.std.specs.Prelude.{if◌then◌else◌, length, slice_get, true, IfSome, None, Some};
 ghost use Rattle.due_model.specs.declared.config.Object.{Object};
 ghost use Rattle.due_model.specs.Histories.{gap_of, judged, told_for};
 ghost use Rattle.due_model.specs.Limits.{last_moment};
@@ -17,7 +17,8 @@ use crate::found::Found;
 use crate::rules::Rules;
 use due_model::config::{Object, ObjectId};
 use due_model::notice::{Kind, Outcome, Reach};
-use due_model::rules::View;
+use due_model::options::OptionLetters;
+use due_model::rules::{Last, View};
 use escalation::interval::matching_interval;
 use filters::attempt::Attempt;
 use filters::object_filters::object_verdict;
@@ -83,11 +84,19 @@ fn view_of(object: ObjectId, settings: &Object, found: &Found, book: Book) -> Vi
         acknowledged: found.after.acknowledged.is_some(),
         began: book.began(),
         delay: settings.delay,
-        last: if book.ended() { None } else { book.last() },
+        last: last_of(book),
         renews: renews(settings, found, object),
         told: book.told(),
         host_problem: found.host_problem,
     }
+}
+
+/// The last notice, unless the wait after it was ended.
+fn last_of(book: Book) -> Option<Last>
+    ensures value { result ≡ (if book.ended then None else book.last) }
+    ensures range { IfSome result IsLastInRange }
+{
+    if book.ended() { None } else { book.last() }
 }
 
 /// Whether the event is a hard state of a volatile service.
@@ -95,6 +104,22 @@ fn renews(settings: &Object, found: &Found, object: ObjectId) -> bool
     ensures { result ≡ (settings.now.volatile && is_hard_of object.0 found.now.event) }
 {
     settings.volatile && found.event.is_hard_of(object)
+}
+
+/// The letters of the states told in the problem, for the recovery of a service by the daemon's rule.
+fn told_for(
+    rules: &Rules<'_>,
+    settings: &Object,
+    kind: Kind,
+    told: OptionLetters,
+) -> Option<OptionLetters>
+    ensures { result ≡ told_for rules.now.config.now settings.now kind told }
+{
+    if rules.config.choices.told && (kind.is_recovery() && settings.host.is_some()) {
+        Some(told)
+    } else {
+        None
+    }
 }
 
 /// How far a notice of an object with these settings reaches, if it counts.
@@ -105,14 +130,9 @@ fn reach_of(rules: &Rules<'_>, settings: &Object, kind: Kind, view: View) -> Rea
       standing = view.sent;
     } }
 {
-    let told = if rules.config.choices.told && (kind.is_recovery() && settings.host.is_some()) {
-        Some(view.told)
-    } else {
-        None
-    };
     Reach {
         heard: true,
-        told,
+        told: told_for(rules, settings, kind, view.told),
         standing: view.sent,
     }
 }

@@ -1,18 +1,18 @@
 //! Whether what becomes of an attempt ends the wait after the last notice.
 
-ghost use Rattle.std.specs.Prelude.{◌≡◌, ◌≤◌, ◌<◌, ◌&&◌, ◌||◌, not};
-ghost use Rattle.std.specs.Prelude.{length, nat_lt, slice_get, Some};
+ghost use Rattle.std.specs.Prelude.{◌≡◌, ◌≤◌, ◌<◌, ◌==◌, ◌&&◌, ◌||◌, not};
+ghost use Rattle.std.specs.Prelude.{is_some, length, nat_lt, slice_get, Some};
 ghost use Rattle.due_model.specs.declared.config.Object.{Object};
 ghost use Rattle.due_model.specs.Histories.{is_by_switch, lapses, stop_lapses};
 ghost use Rattle.due_model.specs.Limits.{last_moment};
 ghost use Rattle.due_model.specs.Periods.{in_period};
-ghost use Rattle.due_model.specs.Rules.{is_problem};
+ghost use Rattle.due_model.specs.Rules.{is_problem, is_recovery};
 ghost use Rattle.outcomes.specs.Outcome.{IsInRange, Lapses};
 ghost use Rattle.outcomes.specs.Rules.{AreRules};
 
 use crate::found::Found;
 use crate::rules::Rules;
-use due_model::config::{Object, ObjectId};
+use due_model::config::{Choices, Object, ObjectId};
 use due_model::notice::{Filter, Kind, Outcome};
 use problem_count::Book;
 use time_period::compiled::is_in_period;
@@ -77,11 +77,49 @@ fn stop_lapses(
         moment filter }
 {
     let choices = rules.config.choices;
-    let down = 0 < found.after.depth || found.host_down;
-    let outside = choices.period_wait && is_outside(rules, settings, kind, moment, filter);
-    let paused = choices.downtime_wait
-        && (!kind.is_recovery() && (settings.host.is_some() && (settings.interval == 0 && down)));
-    !(kind.is_problem() && found.host_problem) && (outside || paused)
+    let held = is_held(kind, found.host_problem);
+    let outside = is_outside(rules, settings, kind, moment, filter);
+    let left = is_left(choices, outside);
+    let down = is_down(found);
+    let paused = is_paused(choices, settings, kind, down);
+    is_ended(held, left, paused)
+}
+
+/// Whether the host's problem holds back what is a problem.
+fn is_held(kind: Kind, host_problem: bool) -> bool
+    ensures { result ≡ (is_problem kind && host_problem) }
+{
+    kind.is_problem() && host_problem
+}
+
+/// Whether a problem outside the period ends the wait.
+fn is_left(choices: Choices, outside: bool) -> bool
+    ensures { result ≡ (choices.period_wait && outside) }
+{
+    choices.period_wait && outside
+}
+
+/// Whether the object, or a service's host, is in downtime.
+fn is_down(found: &Found) -> bool
+    ensures { result ≡ (nat_lt 0 found.now.after.depth || found.now.host_down) }
+{
+    0 < found.after.depth || found.host_down
+}
+
+/// Whether downtime ends the wait.
+fn is_paused(choices: Choices, settings: &Object, kind: Kind, down: bool) -> bool
+    ensures { result ≡ (choices.downtime_wait && (not (is_recovery kind)
+        && (is_some settings.now.host && (settings.now.interval == 0 && down)))) }
+{
+    choices.downtime_wait
+        && (!kind.is_recovery() && (settings.host.is_some() && (settings.interval == 0 && down)))
+}
+
+/// Whether one of the two ends it, and nothing holds it back.
+fn is_ended(held: bool, left: bool, paused: bool) -> bool
+    ensures { result ≡ (not held && (left || paused)) }
+{
+    !held && (left || paused)
 }
 
 /// Whether this is a problem, outside the object's period, and the program switch is on.

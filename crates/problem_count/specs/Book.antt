@@ -51,6 +51,22 @@ is_change s book = not (same_state s book.state)
 abbrev pub delays_by : Choices → State → BookValues → Bool
 delays_by choices s book = if choices.delay then is_change s book else begins_problem s book
 
+-- the book without the notices of its problem, where another begins
+abbrev pub emptied : (begins : Bool) → BookValues → BookValues
+emptied begins book = record book {
+  sent = if begins then 0 else book.sent;
+  last = if begins then None else book.last;
+  told = if begins then no_letter else book.told;
+}
+
+-- the book with a first delay that runs from moment t, where it runs anew
+abbrev pub delayed_from : (anew : Bool) → (t : ℕ) → BookValues → BookValues
+delayed_from anew t book = record book { began = if anew then t else book.began }
+
+-- the book in this hard state, of which nothing is due, and of which the wait was ended or not
+abbrev pub stated : State → (ended : Bool) → BookValues → BookValues
+stated s ended book = record book { state = s; ended = ended; due = None }
+
 -- the book of an object that has this hard state at moment t: of an empty problem where one begins
 abbrev pub after_hard : Choices → State → (t : ℕ) → BookValues → BookValues
 after_hard choices s t book = record {

@@ -1,10 +1,12 @@
 //! A book: the problem of one object, told event by event what became of it.
 
-ghost use Rattle.std.specs.Prelude.{◌≡◌, ◌+◌, ◌^◌, ◌<◌, ◌≤◌, ◌&&◌, ◌||◌, true, Some};
+ghost use Rattle.std.specs.Prelude.{◌≡◌, ◌+◌, ◌^◌, ◌<◌, ◌≤◌, ◌&&◌, ◌||◌, true, None, Some};
+ghost use Rattle.std.specs.Prelude.{if◌then◌else◌};
 ghost use Rattle.due_model.specs.Limits.{last_moment};
 ghost use Rattle.due_model.specs.Readings.{is_problem_state};
 ghost use Rattle.problem_count.specs.Book.{longest_gap, LastIsInRange, new_book};
-ghost use Rattle.problem_count.specs.Book.{after_hard, after_release, after_sent, number_of, retry_by};
+ghost use Rattle.problem_count.specs.Book.{after_hard, after_release, after_sent, begins_problem, delayed_from};
+ghost use Rattle.problem_count.specs.Book.{delays_by, emptied, is_change, number_of, retry_by, stated};
 ghost use Rattle.problem_count.specs.Fits.{FitsNothing, HardFits, SentFits, LapseFits, SuppressedFits, UnheardFits};
 ghost use Rattle.due_model.specs.Histories.{waits_a_while};
 ghost use Rattle.problem_count.specs.Fits.{DueIsReady, NumberIsNext, ReleaseFits};
@@ -103,21 +105,78 @@ impl Book {
         requires { t ≤ last_moment }
         ensures { result ≡ after_hard choices state t self }
     {
-        let begins = state.is_problem() && !self.is_running();
-        let changes = !same_state(state, self.state);
-        let delays = if choices.delay { changes } else { begins };
+        let begun = self.begins(state);
+        let anew = self.delays(choices, state);
+        let over = self.ends(choices, state);
+        self.emptied(begun).delayed(anew, t).stated(state, over)
+    }
+
+    /// Whether a problem begins with this hard state.
+    fn begins(&self, state: State) -> bool
+        ensures { result ≡ begins_problem state self.now }
+    {
+        state.is_problem() && !self.is_running()
+    }
+
+    /// Whether the hard state changes with this one.
+    fn changes(&self, state: State) -> bool
+        ensures { result ≡ is_change state self.now }
+    {
+        !same_state(state, self.state)
+    }
+
+    /// Whether the first delay runs anew with this hard state.
+    fn delays(&self, choices: Choices, state: State) -> bool
+        ensures { result ≡ delays_by choices state self.now }
+    {
+        if choices.delay {
+            self.changes(state)
+        } else {
+            self.begins(state)
+        }
+    }
+
+    /// Whether the wait after the last notice is ended with this hard state.
+    fn ends(&self, choices: Choices, state: State) -> bool
+        ensures { result ≡ (self.now.ended || (choices.reset_wait && is_change state self.now)) }
+    {
+        let changes = self.changes(state);
+        self.ended || (choices.reset_wait && changes)
+    }
+
+    /// The book without the notices of its problem, where another begins.
+    fn emptied(self, begins: bool) -> Book
+        ensures { result ≡ emptied begins self }
+    {
+        if begins {
+            Book {
+                sent: 0,
+                last: None,
+                told: OptionLetters::NONE,
+                ..self
+            }
+        } else {
+            self
+        }
+    }
+
+    /// The book with a first delay that runs from moment `t`, where it runs anew.
+    fn delayed(self, anew: bool, t: u64) -> Book
+        requires { t ≤ last_moment }
+        ensures { result ≡ delayed_from anew t self }
+    {
+        if anew { Book { began: t, ..self } } else { self }
+    }
+
+    /// The book in this hard state, of which nothing is due, and of which the wait was ended or not.
+    fn stated(self, state: State, ended: bool) -> Book
+        ensures { result ≡ stated state ended self }
+    {
         Book {
             state,
-            began: if delays { t } else { self.began },
-            sent: if begins { 0 } else { self.sent },
-            last: if begins { None } else { self.last },
-            told: if begins {
-                OptionLetters::NONE
-            } else {
-                self.told
-            },
-            ended: self.ended || (choices.reset_wait && changes),
+            ended,
             due: None,
+            ..self
         }
     }
 
@@ -128,7 +187,14 @@ impl Book {
         ensures values { self.new ≡ after_release t self.old }
         ensures fits { ReleaseFits t self.old self.new }
     {
-        self.due = if self.is_running() { Some(t) } else { None };
+        self.due = self.due_where_running(t);
+    }
+
+    /// That moment, where a problem runs.
+    fn due_where_running(&self, t: u64) -> Option<u64>
+        ensures { result ≡ (if is_problem_state self.now.state then Some t else None) }
+    {
+        if self.is_running() { Some(t) } else { None }
     }
 
     /// What becomes of an event ends the wait after the last notice, if its gap isn't 0, or doesn't. This is told before
@@ -139,7 +205,8 @@ impl Book {
         } }
         ensures fits { LapseFits lapses self.old self.new }
     {
-        self.ended = self.ended || (lapses && self.waits_a_while());
+        let waits = self.waits_a_while();
+        self.ended = self.ended || (lapses && waits);
     }
 
     /// Whether there is a last notice, and its gap isn't 0.

@@ -25,7 +25,15 @@ pub(crate) fn ended_within(subject: &Subject<'_>, event: &Event, past: &[Event],
         (reverse past.now) over }
 {
     let before = hard(subject.id, past);
-    over || (subject.config.choices.reset_wait && changes(subject.id, event.kind, before))
+    let changed = changes(subject.id, event.kind, before);
+    is_over_by(subject, over, changed)
+}
+
+/// Whether the wait was over, or ends by a change of the hard state.
+fn is_over_by(subject: &Subject<'_>, over: bool, changed: bool) -> bool
+    ensures { result ≡ (over || (subject.now.config.now.choices.reset_wait && changed)) }
+{
+    over || (subject.config.choices.reset_wait && changed)
 }
 
 /// The same after the event, of which this became, where it was `within` or not within it. `last` is the last notice
@@ -112,12 +120,42 @@ fn stop_lapses(subject: &Subject<'_>, down: bool, held: bool, kind: Kind, outsid
         && (not (is_recovery kind) && (is_some subject.now.object.now.host
         && (subject.now.object.now.interval == 0 && down)))))) }
 {
-    let choices = subject.config.choices;
+    let stands = is_held(kind, held);
+    let left = is_left(subject, outside);
+    let paused = is_paused(subject, down, kind);
+    ends(stands, left, paused)
+}
+
+/// Whether the host's problem holds back what is a problem.
+fn is_held(kind: Kind, held: bool) -> bool
+    ensures { result ≡ (is_problem kind && held) }
+{
+    kind.is_problem() && held
+}
+
+/// Whether a problem outside the period ends the wait.
+fn is_left(subject: &Subject<'_>, outside: bool) -> bool
+    ensures { result ≡ (subject.now.config.now.choices.period_wait && outside) }
+{
+    subject.config.choices.period_wait && outside
+}
+
+/// Whether downtime ends the wait.
+fn is_paused(subject: &Subject<'_>, down: bool, kind: Kind) -> bool
+    ensures { result ≡ (subject.now.config.now.choices.downtime_wait
+        && (not (is_recovery kind) && (is_some subject.now.object.now.host
+        && (subject.now.object.now.interval == 0 && down)))) }
+{
     let object = subject.object;
-    let paused = choices.downtime_wait
-        && (!kind.is_recovery() && (object.host.is_some() && (object.interval == 0 && down)));
-    let left = choices.period_wait && outside;
-    !(kind.is_problem() && held) && (left || paused)
+    subject.config.choices.downtime_wait
+        && (!kind.is_recovery() && (object.host.is_some() && (object.interval == 0 && down)))
+}
+
+/// Whether one of the two ends it, and nothing holds it back.
+fn ends(held: bool, left: bool, paused: bool) -> bool
+    ensures { result ≡ (not held && (left || paused)) }
+{
+    !held && (left || paused)
 }
 
 /// Whether this is a problem outside the object's period, and the program switch is on.
@@ -140,8 +178,15 @@ fn is_outside(
         subject.object.period,
         moment,
     )?;
-    let outside = kind.is_problem() && (!is_by_switch(filter) && !holds);
+    let outside = is_attempt_outside(kind, filter, holds);
     Ok(outside)
+}
+
+/// Whether this is a problem, outside a period that holds or doesn't, and the program switch is on.
+fn is_attempt_outside(kind: Kind, filter: Filter, holds: bool) -> bool
+    ensures { result ≡ (is_problem kind && (not (is_by_switch filter) && not holds)) }
+{
+    kind.is_problem() && (!is_by_switch(filter) && !holds)
 }
 
 /// Whether the program switch stopped it.
