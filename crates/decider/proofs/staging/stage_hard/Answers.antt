@@ -25,12 +25,12 @@ stage_owned-requires c =
           c.in_order-pair.ensures.order).1.0;
     }
 
-pub stage_owned-2-requires : goal.stage_owned-2-requires
-stage_owned-2-requires c =
+pub stage_owned-in-Some-requires : goal.stage_owned-in-Some-requires
+stage_owned-in-Some-requires c =
     let r = c.args.reading.now in
     let v = values r c.args.dependencies.now c.args.statuses.now in
     let pair = c.in_order-pair.result in
-    let first = c.in_ok-stage_owned.ensures in
+    let first = c.stage_owned.ensures in
     record {
       at = (c.requires.at.0, c.requires.at.1, at_same r _ _ _ _ c.requires.at.0 c.requires.at.1 first.dependencies first.statuses c.requires.at.2);
       touched = λ e past settings is' at.
@@ -42,21 +42,21 @@ stage_owned-2-requires c =
           c.in_order-pair.ensures.order).1.1;
     }
 
-pub returns-in-Some-clause-staged : goal.returns-in-Some-clause-staged
-returns-in-Some-clause-staged c = on_ok_weaker c.stage_owned-2.result (λ adds e past is.
+pub returns-in_ok-stage_owned-in-Some-clause-staged : goal.returns-in_ok-stage_owned-in-Some-clause-staged
+returns-in_ok-stage_owned-in-Some-clause-staged c = on_ok_weaker c.stage_owned-in-Some.result (λ adds e past is.
     let r = c.args.reading.now in
     let v = values r c.args.dependencies.now c.args.statuses.now in
     let pair = c.in_order-pair.result in
-    let first = c.in_ok-stage_owned.ensures in
+    let first = c.stage_owned.ensures in
     let again = (λ (o : ℕ). c.repeated.ensures e past c.args.dependencies.now o is ∙ ap (λ found. names found o) c.in-Some.is) in
     let laws = c.fit_on.ensures.untouched in
     let are = c.in_order-pair.ensures.are in
     let within = pair_within laws v e past is c.args.object c.in-Some.host c.requires.named again pair.first pair.second are c.in_order-pair.ensures.order in
-    adds_same _ _ _ _ c.args.staged.now c.stage_owned-2.new.staged
+    adds_same _ _ _ _ c.args.staged.now c.stage_owned-in-Some.new.staged
     (sym (pair_entries laws v e past is c.args.object c.in-Some.host c.requires.named again pair.first pair.second are within.0 within.1.1))
     (sym (pair_books laws v e past is c.args.object c.in-Some.host c.requires.named again pair.first pair.second are within.0 within.1.1))
-    (adds_more _ _ _ _ c.args.staged.now c.stage_owned.new.staged c.stage_owned-2.new.staged (first.staged e past is)
-    (adds e past (at_same r _ _ _ _ e past first.dependencies first.statuses is)))) c.stage_owned-2.ensures.staged
+    (adds_more _ _ _ _ c.args.staged.now c.stage_owned.new.staged c.stage_owned-in-Some.new.staged (c.in_ok-stage_owned-in-Some.ensures.staged e past is)
+    (adds e past (at_same r _ _ _ _ e past first.dependencies first.statuses is)))) c.stage_owned-in-Some.ensures.staged
 
 pub stage_owned-in-None-requires : goal.stage_owned-in-None-requires
 stage_owned-in-None-requires c =
