@@ -1,4 +1,0 @@
-pub mod MisfitLemmas
-pub mod DateLemmas
-pub mod MarkLemmas
-pub mod AnsweredLemmas

@@ -1,4 +1,0 @@
-pub mod Misfits
-pub mod Rows
-pub mod Marks
-pub mod Answered
