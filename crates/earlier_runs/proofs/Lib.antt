@@ -1,2 +1,0 @@
-pub mod CompareLaws
-mod TallyLaws

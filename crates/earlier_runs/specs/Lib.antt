@@ -1,4 +1,0 @@
-pub mod Compared
-pub mod ComparedLaws
-pub mod State
-pub mod Tally
