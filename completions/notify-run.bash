@@ -11,7 +11,7 @@ _notify_run() {
         esac
     done
     case "$command $before" in
-        "replay --objects" | "replay --zone-file" | "trace --zone-file" | "run --objects" | "run --log" | "run --feed" | "run --zone-file" | "who --objects" | "who --zone-file" | "diff --objects" | "diff --with" | "diff --zone-file" | "why --objects" | "why --zone-file")
+        "replay --objects" | "replay --picture" | "replay --zone-file" | "trace --zone-file" | "run --objects" | "run --log" | "run --metrics" | "run --feed" | "run --zone-file" | "who --objects" | "who --zone-file" | "diff --objects" | "diff --with" | "diff --zone-file" | "why --objects" | "why --zone-file")
             mapfile -t COMPREPLY < <(compgen -f -- "$word")
             return
             ;;
@@ -19,12 +19,12 @@ _notify_run() {
     esac
     case "$command" in
         "") words="replay trace run who diff why -h --help -V --version" ;;
-        replay) words="--objects --only --object --contact --json --pretty --zone --zone-file -h --help" ;;
+        replay) words="--objects --only --object --contact --json --pretty --picture --zone --zone-file -h --help" ;;
         trace) words="--deciders --standbys --queue --tries --zone --zone-file -h --help" ;;
-        run) words="--objects --deciders --queue --tries --timeout --pause --ahead --log --fold --quiet --feed --follow --clock --zone --zone-file -h --help" ;;
-        who) words="--objects --at --for --down --zone --zone-file -h --help" ;;
+        run) words="--objects --deciders --queue --tries --timeout --pause --ahead --log --fold --metrics --quiet --feed --follow --clock --zone --zone-file -h --help" ;;
+        who) words="--objects --at --for --down --json --zone --zone-file -h --help" ;;
         diff) words="--objects --with --json --zone --zone-file -h --help" ;;
-        why) words="--objects --object --contact --from --to --zone --zone-file -h --help" ;;
+        why) words="--objects --object --contact --from --to --json --zone --zone-file -h --help" ;;
     esac
     mapfile -t COMPREPLY < <(compgen -W "$words" -- "$word")
 }

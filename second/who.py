@@ -46,7 +46,9 @@ def row(line, local):
 
 def of_escalations(configuration, number, person, within):
     """Which escalations of an object name somebody and haven't begun or don't match, or have begun and leave out one of the object's own."""
-    begun = max((int(line["number"]) for line in within if line["letter"] in "NC" and line["kind"] == "PROBLEM"), default=-1)
+    # a recovery is matched with the number of the last notice, which is one less than its own
+    numbers = {kind: [int(line["number"]) for line in within if line["letter"] in "NC" and line["kind"] == kind] for kind in ("PROBLEM", "RECOVERY")}
+    begun = max([*numbers["PROBLEM"], *(number - 1 for number in numbers["RECOVERY"])], default=-1)
     own, said = person in configuration.objects[number].contacts, ""
     for at, escalation in enumerate((it for it in configuration.escalations if it.object == number), 1):
         begins = f"escalation {at} begins with notice {escalation.first}"
@@ -71,31 +73,52 @@ def why(configuration, number, person, name, within):
     return of_escalations(configuration, number, person, within) or "nothing is due; "
 
 
-def missing(configuration, number, person, until, lines, local):
-    """What is said of somebody: nothing where a notice went to them up to a moment."""
+def missing(configuration, number, person, until, lines):
+    """What is said of somebody: nothing where a notice went to them up to a moment; else the name, why not, and the line by which they are told later on."""
     name = configuration.people[person].name
     told = [line for line in lines if line["letter"] == "N" and line["contact"] == name]
     if any(int(line["moment"]) <= until for line in told):
-        return ""
-    when = f"told {local(int(told[0]['moment']))}, notice {told[0]['number']}" if told else "not within a week"
+        return []
     within = [line for line in lines if int(line["moment"]) <= until]
-    return f"not told  {name}  {why(configuration, number, person, name, within)}{when}\n"
+    return [(name, why(configuration, number, person, name, within), told[0] if told else None)]
 
 
-def who(text, supposed, minutes, local):
-    """Who is told of what is supposed for so many minutes, given how a moment is shown, and who isn't."""
+def missed_row(missed, local):
+    """The row of somebody who isn't told."""
+    name, reason, told = missed
+    when = f"told {local(int(told['moment']))}, notice {told['number']}" if told else "not within a week"
+    return f"not told  {name}  {reason}{when}\n"
+
+
+def told_and_missed(text, supposed, minutes):
+    """The status, the lines of the report of what is supposed for so many minutes, who is missing in it, and the fault."""
     try:
         configuration = Configuration(read(text.encode()))
     except Refused as refusal:
-        return 1, "", str(refusal)
-    down, host, service, _, moment = supposed
+        return 1, [], [], str(refusal)
+    _, host, service, _, moment = supposed
     fault = unknown(configuration, supposed)
     if fault:
-        return 2, "", f"usage: {fault}"
+        return 2, [], [], f"usage: {fault}"
     status, lines, _ = replay(f"{text}%events\n{made(supposed, minutes)}".encode())
-    rows = "".join(row(line, local) for line in lines) or "nobody is told\n"
     number, name = configuration.find(host, service), host if service is None else f"{host}/{service}"
     week = replay(f"{text}%events\n{made(supposed, WEEK)}".encode())[1]
     of = [line for line in map(fields, week) if line.get("object") == name]
     named = {*configuration.objects[number].contacts, *(person for it in configuration.escalations if it.object == number for person in it.contacts)}
-    return status, rows + "".join(missing(configuration, number, person, moment + 60 * minutes, of, local) for person in sorted(named)), ""
+    return status, lines, [it for person in sorted(named) for it in missing(configuration, number, person, moment + 60 * minutes, of)], ""
+
+
+def who(text, supposed, minutes, local):
+    """Who is told of what is supposed for so many minutes, given how a moment is shown, and who isn't."""
+    status, lines, missed, fault = told_and_missed(text, supposed, minutes)
+    if fault:
+        return status, "", fault
+    rows = "".join(row(line, local) for line in lines) or "nobody is told\n"
+    return status, rows + "".join(missed_row(it, local) for it in missed), ""
+
+
+def missed_json(missed, local):
+    """The members of the object of somebody who isn't told, in order."""
+    name, reason, told = missed
+    moment, number = (int(told["moment"]), told["number"]) if told else (None, "-")
+    return [("letter", "M"), ("contact", name), ("reason", reason[:-2]), ("moment", moment), ("local", None if moment is None else local(moment)), ("number", None if number == "-" else int(number))]

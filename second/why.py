@@ -1,7 +1,8 @@
-"""What the command `why` writes of the lines of a report: of each attempt on an object what became of it."""
+"""What the command `why` writes of the lines of a report, as text and as JSON: of each attempt on an object what became of it."""
 from who import fields, of_escalations
 
 FILTERS = ["Program", "Disabled", "Downtime", "Flapping", "Options", "NoProblem", "Period", "Dependency", "Acknowledged", "FirstDelay", "Interval"]
+LAST = 32_503_679_999
 LETTERS = {"host": "du", "service": "wuc"}
 
 
@@ -35,18 +36,22 @@ class Reasons:
         if passed:
             self.text += f"    passed       {', '.join(map(self.value, passed))}\n"
 
-    def close(self):
-        """Ends what is open."""
-        if len(self.row) > 1:
-            self.text += f"    and again    {len(self.row) - 1} times, up to {self.local(int(self.row[-1]['moment']))}\n"
+    def missing(self):
+        """Whom the configuration names besides those that the open attempt tells of, and why they aren't told."""
         people, met = self.configuration.people, {of["contact"] for of in self.attempt}
         named = {*self.object.contacts, *(person for it in self.configuration.escalations if it.object == self.number for person in it.contacts)}
         for person in sorted(named) if self.attempt else []:
             name = people[person].name
             if name not in met and self.contact in (None, name):
                 has = people[person].rights[self.object.kind].lanes
-                why = of_escalations(self.configuration, self.number, person, self.attempt) if has else "no notification command; "
-                self.text += f"    no receiver  {name}  {why}not told\n"
+                yield name, of_escalations(self.configuration, self.number, person, self.attempt) if has else "no notification command; "
+
+    def close(self):
+        """Ends what is open."""
+        if len(self.row) > 1:
+            self.text += f"    and again    {len(self.row) - 1} times, up to {self.local(int(self.row[-1]['moment']))}\n"
+        for name, reason in self.missing():
+            self.text += f"    no receiver  {name}  {reason}not told\n"
         self.row, self.attempt = [], []
 
     def add(self, of):
@@ -70,11 +75,59 @@ class Reasons:
             self.text += f"    refused      {of['contact']}  {self.contact_value(person, of['filter'])}\n"
 
 
+class Objects(Reasons):
+    """The same as objects of JSON: each a list of its members in order. What a line of the report gives is that line itself."""
+
+    def __init__(self, configuration, number, contact):
+        super().__init__(configuration, number, contact, str)
+        self.made = []
+
+    def tried(self, of, passed, stopped):
+        self.made.append([("letter", "A"), ("event", int(of["event"])), ("passed", [self.value(name) for name in passed]), ("stopped", stopped and self.value(stopped))])
+
+    def close(self):
+        for name, reason in self.missing():
+            self.made.append([("letter", "M"), ("contact", name), ("reason", reason[:-2]), ("event", int(self.attempt[0]["event"]))])
+        self.row, self.attempt = [], []
+
+    def add(self, of):
+        if of["letter"] == "S":
+            self.close()
+            self.tried(of, FILTERS[: FILTERS.index(of["filter"])], of["filter"])
+            self.made.append(of)
+            return
+        if not self.attempt or self.attempt[-1]["event"] != of["event"]:
+            self.close()
+            self.tried(of, FILTERS, None)
+        self.attempt.append(of)
+        if self.contact in (None, of["contact"]):
+            self.made.append(of)
+
+
+def in_span(lines, name, begin, end):
+    """The fields of the lines of a report that are of the object of a name, before a span, and in it."""
+    of = [it for it in map(fields, lines) if it.get("object") == name]
+    return [it for it in of if int(it["moment"]) < begin], [it for it in of if begin <= int(it["moment"]) <= end]
+
+
 def why(configuration, lines, number, name, contact, begin, end, local):
-    """What is written of the lines of a report, of the object of a number and a name, from one moment up to another."""
+    """What is written of the lines of a report, of the object of a number and a name, from one moment up to another, either of which may be none."""
+    before, within = in_span(lines, name, begin or 0, LAST if end is None else end)
     reasons = Reasons(configuration, number, contact, local)
-    for of in map(fields, lines):
-        if of["letter"] != "R" and of["object"] == name and begin <= int(of["moment"]) <= end:
-            reasons.add(of)
+    for of in within:
+        reasons.add(of)
     reasons.close()
-    return reasons.text
+    if within:
+        return reasons.text
+    span = (f" from {local(begin)}" if begin else "") + (f" up to {local(end)}" if end not in (None, LAST) else "")
+    last = f"; the last one before: {local(int(before[-1]['moment']))}  {before[-1]['kind']} {before[-1]['state']}" if before else ""
+    return f"no attempt on {name}{span}{last}\n"
+
+
+def why_json(configuration, lines, number, name, contact, begin, end):
+    """The same as JSON: the fields of a line of the report, or the members of another object in order."""
+    objects = Objects(configuration, number, contact)
+    for of in in_span(lines, name, begin or 0, LAST if end is None else end)[1]:
+        objects.add(of)
+    objects.close()
+    return objects.made

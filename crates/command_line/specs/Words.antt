@@ -48,13 +48,15 @@ pub record IsZoneOf (options : Found) (words : ZoneWords) : Type 0 where
   pub rule : option_copied words.rule ≡ first_value options (codes "zone")
   pub file : option_copied words.file ≡ first_value options (codes "zone-file")
 
--- the texts that they hold of which lines of a report are wanted, and whether each is to be JSON, or for people
+-- the texts that they hold of which lines of a report are wanted, whether each is to be JSON, or for people, and of the picture's
+-- file
 pub record IsShownOf (options : Found) (words : ShownWords) : Type 0 where
   pub only : option_copied words.only ≡ first_value options (codes "only")
   pub object : option_copied words.object ≡ first_value options (codes "object")
   pub contact : option_copied words.contact ≡ first_value options (codes "contact")
   pub json : IsFlag options (codes "json") words.json
   pub pretty : IsFlag options (codes "pretty") words.pretty
+  pub picture : option_copied words.picture ≡ first_value options (codes "picture")
 
 -- An option holds the number: what is read of it is the number in decimal digits.
 abbrev pub HoldsNumber : Found → (name : List ℕ) → (number : ℕ) → Type 0
@@ -91,10 +93,11 @@ TraceLacks options = (deciders standbys : ℕ) → HoldsNumber options (codes "d
     → HoldsNumber options (codes "standbys") standbys → standbys < max_channels
     → HoldFitting options deciders → ⊥
 
--- the file that the options of `run` hold of a log, and whether its lines are folded
+-- the file that the options of `run` hold of a log, whether its lines are folded, and the file that they hold of metrics
 pub record IsLogOf (options : Found) (words : LogWords) : Type 0 where
   pub file : option_copied words.file ≡ first_value options (codes "log")
   pub fold : IsFlag options (codes "fold") words.fold
+  pub metrics : option_copied words.metrics ≡ first_value options (codes "metrics")
 
 -- the seconds that the options of `run` hold
 pub record HoldTimes (options : Found) (times : TryTimes) : Type 0 where
@@ -115,6 +118,7 @@ pub record IsWhoOf (options : Found) (asked : WhoWords) : Type 0 where
   pub lasting : Some asked.lasting.now ≡ first_value options (codes "for")
   pub down : option_map (λ words. map (λ word. word.now) words.now) asked.down
       ≡ option_map raw_values (matched_of options (codes "down"))
+  pub json : IsFlag options (codes "json") asked.json
 
 -- They suppose nothing: they lack the object, its state or how long it lasts.
 abbrev pub LacksSupposed : Found → Type 0
@@ -274,10 +278,11 @@ abbrev pub with_shown : App → App
 with_shown app =
     with_rule (with_rule (with_picks app) (flag_option (codes "json"))) (flag_option (codes "pretty"))
 
--- `replay` has these, and the file of the object text
+-- `replay` has these, the file of the object text, and that of a picture
 abbrev pub replay_words : App
 replay_words =
-    with_zone (with_shown (with_rule (new_app (codes "replay")) (text_option (codes "objects"))))
+    with_zone (with_rule (with_shown (with_rule (new_app (codes "replay")) (text_option (codes "objects"))))
+    (text_option (codes "picture")))
 
 -- two say how many notices a lane's queue holds, and how many tries a message has
 abbrev pub with_lane_options : App → App
@@ -304,12 +309,13 @@ abbrev pub with_feed_options : App → App
 with_feed_options app =
     with_rule (with_rule (with_rule app (text_option (codes "feed"))) (flag_option (codes "follow"))) (flag_option (codes "clock"))
 
--- two say where a run writes its report as it goes, and that lines of it are folded
+-- three say where a run writes its report as it goes, that lines of it are folded, and where it writes its metrics
 abbrev pub with_log_options : App → App
-with_log_options app = with_rule (with_rule app (text_option (codes "log"))) (flag_option (codes "fold"))
+with_log_options app =
+    with_rule (with_rule (with_rule app (text_option (codes "log"))) (flag_option (codes "fold"))) (text_option (codes "metrics"))
 
 -- `run` has the file of the object text, which must be given, how many deciders there are, how many notices a lane's queue holds,
--- these, how far ahead a stamp may be, where its report goes, `--quiet`, where the feed is read from, and the channel words
+-- these, how far ahead a stamp may be, where its report and its metrics go, `--quiet`, where the feed is read from, and the channel words
 abbrev pub run_words : App
 run_words =
     with_rule (with_zone (with_feed_options (with_rule (with_log_options (with_rule (with_try_options (with_rule (with_rule (with_rule (new_app (codes "run"))
@@ -334,12 +340,14 @@ one_word name = record (new_rule name) {
   value_names = 1;
 }
 
--- five say what is supposed: from when on, for how long, which hosts are down, an object and its state
+-- five say what is supposed: from when on, for how long, which hosts are down, an object and its state; and one that each line is to
+-- be JSON
 abbrev pub with_supposed : App → App
 with_supposed app =
-    with_rule (with_rule (with_rule (with_rule (with_rule app
+    with_rule (with_rule (with_rule (with_rule (with_rule (with_rule app
     (text_option (codes "at"))) length_option)
-    (text_options (codes "down"))) (one_word (codes "object"))) (one_word (codes "state"))
+    (text_options (codes "down"))) (flag_option (codes "json")))
+    (one_word (codes "object"))) (one_word (codes "state"))
 
 -- `who` has these, and the file of the object text, which must be given
 abbrev pub who_words : App

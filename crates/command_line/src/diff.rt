@@ -27,7 +27,8 @@ many notices it gets before and after the change, how many of them at night, fro
   P;contact;before;after;night_before;night_after;silence_before;silence_after
 
 Events are numbered by each as it takes them: a line that it refuses gives no event, and no
-notice. --json writes each line as a JSON object.";
+notice. --json writes each line as a JSON object. On a terminal lines are for people, with
+colours unless NO_COLOR is set.";
 
 /// The command `diff` and its options.
 pub(crate) fn diff_command<'a>(alloc: Global) -> Result<Command<'a>, AllocError>

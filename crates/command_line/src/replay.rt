@@ -30,7 +30,11 @@ comes, and what an event adds is written before more input is waited for, so tha
 each condition given; --json writes each line as a JSON object, with the local time
 beside the moment; --pretty writes them for people: local times, names in columns,
 colours on a terminal unless NO_COLOR is set, and of what a filter of an object stops
-in a row the first line, and how often more before the object's next line or the end.";
+in a row the first line, and how often more before the object's next line or the end.
+
+--picture FILE.svg draws the whole feed beside that: one row an object, time to the
+right, its state as colour, downtimes and acknowledgements as bands, a filled mark for
+each notice, by contact, and a hollow one for each suppression.";
 
 /// The command `replay` and its options.
 pub(crate) fn replay_command<'a>(alloc: Global) -> Result<Command<'a>, AllocError>
@@ -46,7 +50,13 @@ pub(crate) fn replay_command<'a>(alloc: Global) -> Result<Command<'a>, AllocErro
         .about("What would have been sent, from object text and a feed of events")
         .long_about(REPLAY)
         .arg(objects)?;
-    let with_shown = with_shown(alloc, command)?;
+    let picture = text_option(
+        alloc,
+        "picture",
+        "FILE",
+        "A file for a picture of the feed, as SVG: one row an object, time to the right",
+    );
+    let with_shown = with_shown(alloc, command)?.arg(picture)?;
     with_zone(alloc, with_shown)
 }
 
@@ -105,6 +115,7 @@ fn shown_words<'a>(options: &ArgMatches<'a>) -> ShownWords<'a>
         contact: options.get_str("contact"),
         json: options.get_flag("json"),
         pretty: options.get_flag("pretty"),
+        picture: options.get_str("picture"),
     }
 }
 

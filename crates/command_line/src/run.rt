@@ -39,7 +39,9 @@ Once the feed is over, standard output gets the lines below. With --log they go 
 as they happen, each as soon as it is known, and standard output gets the G and Z lines
 alone; a file that is moved away is opened anew. With --fold an S line that only repeats the
 one before of its object isn't written, but the last before another one is, with how many
-there were. The lines are
+there were. With --metrics that file is replaced each 15 seconds, and at the end, by numbers
+of the run, in the text format that Prometheus's node exporter reads from a folder. The lines
+are
 
   R;line;fault                                             a refused line of the feed
   S;event;moment;object;kind;state;filter                  what a filter of the object stopped
@@ -150,7 +152,7 @@ fn channel_words<'a>(alloc: Global) -> Arg<'a>
         .help("Where the messages of a command go: NAME=KIND:..")
 }
 
-/// Adds the options that say where a run writes its report as it goes.
+/// Adds the options that say where a run writes its report and its metrics as it goes.
 fn with_log_options<'a>(alloc: Global, command: Command<'a>) -> Result<Command<'a>, AllocError>
     ensures words { IfOk result (λ command_with.
         app_of command_with ≡ with_log_options (app_of command.entry)) }
@@ -166,7 +168,13 @@ fn with_log_options<'a>(alloc: Global, command: Command<'a>) -> Result<Command<'
         "fold",
         "Leaves out S lines of the log that repeat the one before of their object",
     );
-    command.arg(log)?.arg(fold)
+    let metrics = text_option(
+        alloc,
+        "metrics",
+        "FILE",
+        "Writes numbers of the run to this file each 15 seconds, for Prometheus",
+    );
+    command.arg(log)?.arg(fold)?.arg(metrics)
 }
 
 /// The command `run`, its options and its words.
@@ -209,13 +217,14 @@ fn ahead_of(options: &ArgMatches<'_>) -> Option<u32>
     options.get_one::<u32>("ahead")
 }
 
-/// What the options of `run` say of where its report goes as it goes.
+/// What the options of `run` say of where its report and its metrics go as it goes.
 fn log_words<'a>(options: &ArgMatches<'a>) -> LogWords<'a>
     ensures { IsLogOf (found_of options.now) result }
 {
     LogWords {
         file: options.get_str("log"),
         fold: options.get_flag("fold"),
+        metrics: options.get_str("metrics"),
     }
 }
 

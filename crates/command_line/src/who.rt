@@ -7,7 +7,7 @@ ghost use Rattle.command_line.specs.Words.{AreSettingsFit, IsRequestOf, IsWhoOf,
 ghost use Rattle.command_line.specs.Words.{length_option, text_options, who_words, with_supposed};
 ghost use Rattle.command_line.specs.Words.{request_name, text_option};
 
-use crate::options::{one_word, text_option, with_zone, zone_words};
+use crate::options::{flag_option, one_word, text_option, with_zone, zone_words};
 use crate::words::{Request, WhoWords};
 use clap::{Arg, ArgAction, ArgMatches, Command};
 use std::alloc::{AllocError, Global};
@@ -29,7 +29,11 @@ name, a contact a line:
   `not told`  contact  why; when they are told, if that is within a week
 
 Why is the filter that refused the contact, or the escalations that leave it out; where
-nothing goes out, the filter of the object.";
+nothing goes out, the filter of the object.
+
+On a terminal the notices are in columns, with colours unless NO_COLOR is set. --json
+writes each line as a JSON object: a notice as `replay` does, a contact that isn't told
+with the letter M.";
 
 /// The option that says from when on something is supposed.
 fn at_option<'a>(alloc: Global) -> Arg<'a>
@@ -77,6 +81,7 @@ fn with_supposed<'a>(alloc: Global, command: Command<'a>) -> Result<Command<'a>,
     ensures words { IfOk result (λ command_with.
         app_of command_with ≡ with_supposed (app_of command.entry)) }
 {
+    let json = flag_option(alloc, "json", "Each line as a JSON object");
     let object = one_word(alloc, "object", "OBJECT", "HOST or HOST/SERVICE");
     let state = one_word(
         alloc,
@@ -88,6 +93,7 @@ fn with_supposed<'a>(alloc: Global, command: Command<'a>) -> Result<Command<'a>,
         .arg(at_option(alloc))?
         .arg(for_option(alloc))?
         .arg(down_option(alloc))?
+        .arg(json)?
         .arg(object)?
         .arg(state)
 }
@@ -116,6 +122,7 @@ fn who_asked<'m, 'a>(options: &'m ArgMatches<'a>) -> Option<WhoWords<'m, 'a>>
         at: options.get_str("at"),
         lasting: options.get_str("for")?,
         down: options.get_strs("down"),
+        json: options.get_flag("json"),
     })
 }
 

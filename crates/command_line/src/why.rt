@@ -6,7 +6,7 @@ ghost use Rattle.clap.specs.Words.{app_of, rule_of};
 ghost use Rattle.command_line.specs.Why.{IsWhyOf, LacksWhy, asked_object, why_words, with_span};
 ghost use Rattle.command_line.specs.Words.{AreSettingsFit, IsRequestOf, WhyLacks, request_name};
 
-use crate::options::{text_option, with_zone, zone_words};
+use crate::options::{flag_option, text_option, with_zone, zone_words};
 use crate::words::Request;
 use clap::{Arg, ArgMatches, Command};
 use std::alloc::{AllocError, Global};
@@ -23,7 +23,10 @@ when it was, of which kind and state, and below it
   no receiver  whom the configuration names besides, and which escalation leaves it out
 
 OBJECT is HOST or HOST/SERVICE. A time is seconds since 1970, or a local date and time, as
-2026-11-30T08:00, or with an offset. --contact leaves the rows of one contact.";
+2026-11-30T08:00, or with an offset. --contact leaves the rows of one contact. Where there
+was no attempt it says so, and which was the last before. On a terminal rows have colours,
+unless NO_COLOR is set. --json writes each row as a JSON object: filters with the letter A,
+the lines of the report as `replay` does, each by itself, and no receivers with the letter M.";
 
 /// What a command line asks of a report.
 #[derive(Clone, Copy, Debug, PartialEq, Eq)]
@@ -36,6 +39,8 @@ pub struct WhyWords<'a> {
     pub from: Option<&'a str>,
     /// The last moment, if there is one.
     pub to: Option<&'a str>,
+    /// Whether each row is to be an object of JSON.
+    pub json: bool,
 }
 
 /// The option that names the object, which must be given.
@@ -46,7 +51,7 @@ fn asked_object<'a>(alloc: Global) -> Arg<'a>
     text_option(alloc, "object", "OBJECT", "The host, or HOST/SERVICE").required(true)
 }
 
-/// Adds the options that say of whom and of which span it is asked.
+/// Adds the options that say of whom and of which span it is asked, and whether rows are to be JSON.
 fn with_span<'a>(alloc: Global, command: Command<'a>) -> Result<Command<'a>, AllocError>
     ensures words { IfOk result (λ command_with.
         app_of command_with ≡ with_span (app_of command.entry)) }
@@ -54,7 +59,8 @@ fn with_span<'a>(alloc: Global, command: Command<'a>) -> Result<Command<'a>, All
     let contact = text_option(alloc, "contact", "NAME", "Only what is of this contact");
     let from = text_option(alloc, "from", "TIME", "Only attempts from this moment on");
     let to = text_option(alloc, "to", "TIME", "Only attempts up to this moment");
-    command.arg(contact)?.arg(from)?.arg(to)
+    let json = flag_option(alloc, "json", "Each row as a JSON object");
+    command.arg(contact)?.arg(from)?.arg(to)?.arg(json)
 }
 
 /// The command `why` and its options.
@@ -80,6 +86,7 @@ fn why_asked<'a>(options: &ArgMatches<'a>) -> Option<WhyWords<'a>>
         contact: options.get_str("contact"),
         from: options.get_str("from"),
         to: options.get_str("to"),
+        json: options.get_flag("json"),
     })
 }
 

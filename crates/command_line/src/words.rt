@@ -20,7 +20,7 @@ pub struct ZoneWords<'a> {
 }
 
 /// What a command line says of a report's lines: which are wanted, those that meet each condition that is given, and
-/// whether each is to be JSON, or for people; both are one too many.
+/// whether each is to be JSON, or for people; both are one too many. And where the feed's picture goes.
 #[derive(Clone, Copy, Debug, PartialEq, Eq)]
 pub struct ShownWords<'a> {
     /// Letters of lines.
@@ -33,6 +33,8 @@ pub struct ShownWords<'a> {
     pub json: bool,
     /// Whether lines are to be written for people.
     pub pretty: bool,
+    /// The file of the picture, if there is to be one.
+    pub picture: Option<&'a str>,
 }
 
 /// Whether a line of a report begins with this letter.
@@ -89,6 +91,8 @@ pub struct WhoWords<'m, 'a> {
     pub lasting: &'a str,
     /// The hosts that are down all the while, if there are some.
     pub down: Option<&'m [&'a str]>,
+    /// Whether each line is to be an object of JSON.
+    pub json: bool,
 }
 
 /// How long a run waits for its channels.
@@ -100,13 +104,15 @@ pub struct TryTimes {
     pub pause: u8,
 }
 
-/// Where a run writes its report as it goes.
+/// Where a run writes its report and its metrics as it goes.
 #[derive(Clone, Copy, Debug, PartialEq, Eq)]
 pub struct LogWords<'a> {
-    /// The file, if there is one.
+    /// The file of the report, if there is one.
     pub file: Option<&'a str>,
     /// Whether lines that repeat the one before are folded.
     pub fold: bool,
+    /// The file of the metrics, if there is one.
+    pub metrics: Option<&'a str>,
 }
 
 /// What a command line says of where the feed of a run is read from.

@@ -1,9 +1,10 @@
 -- A line of the table: a contact's name, its messages, those at night and the longest silence, each before and after.
 use Rattle.std.specs.Prelude.{ℕ, List, [], ◌∷◌, ◌++◌, codes, decimal}
 use Rattle.changed_notices.specs.declared.changed.ChangeForm.{ChangeForm}
-use Rattle.changed_notices.specs.declared.changed.ChangeForm.TheVariants.{Json, Plain}
+use Rattle.changed_notices.specs.declared.changed.ChangeForm.TheVariants.{Json, Plain, Pretty}
 use Rattle.contact_tallies.specs.declared.tallies.Tally.{Tally}
 use Rattle.line_forms.specs.Json.{string_json}
+use Rattle.pretty_lines.specs.Columns.{padded}
 
 -- a number before and one after, each with what stands in front of it
 unfoldable pub pair_text : (front : List ℕ) → (before : ℕ) → (mid : List ℕ) → (after : ℕ) → List ℕ
@@ -31,7 +32,19 @@ json_row name before after =
     codes "{\"letter\":\"P\",\"contact\":" ++ string_json name ++ json_numbers before after
     ++ codes "}\n"
 
+-- for people
+unfoldable pub pretty_numbers : (before after : Tally) → List ℕ
+pretty_numbers before after =
+    pair_text (codes "  pages ") before.pages (codes " to ") after.pages
+    ++ pair_text (codes ", at night ") before.at_night (codes " to ") after.at_night
+    ++ pair_text (codes ", longest silence ") before.silence (codes " s to ") after.silence
+    ++ codes " s\n"
+
+unfoldable pub pretty_row : (name : List ℕ) → (before after : Tally) → List ℕ
+pretty_row name before after = padded 12 name ++ pretty_numbers before after
+
 -- a line, in a form
 abbrev pub row_text : ChangeForm → (name : List ℕ) → (before after : Tally) → List ℕ
 row_text Plain name before after = plain_row name before after
+row_text (Pretty coloured) name before after = pretty_row name before after
 row_text Json name before after = json_row name before after

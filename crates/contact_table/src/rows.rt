@@ -1,13 +1,14 @@
 //! A line of the table.
 
-ghost use Rattle.std.specs.Prelude.{◌≡◌, ◌<◌, ◌++◌, decimal, flat_map, OnOk};
-ghost use Rattle.line_forms.specs.Json.{escaped, hex, string_json};
+ghost use Rattle.std.specs.Prelude.{◌≡◌, ◌++◌, decimal, OnOk};
 ghost use Rattle.contact_table.specs.Rows.{json_numbers, json_row, pair_text, plain_numbers};
-ghost use Rattle.contact_table.specs.Rows.{plain_row, row_text};
+ghost use Rattle.contact_table.specs.Rows.{plain_row, pretty_numbers, pretty_row, row_text};
 
 use changed_notices::ChangeForm;
 use contact_tallies::Tally;
 use itoa::Buffer;
+use line_forms::push_string;
+use pretty_lines::push_padded;
 use std::alloc::AllocError;
 
 /// Adds a number in decimal digits.
@@ -34,53 +35,6 @@ fn push_pair(
     push_decimal(text, before)?;
     text.extend_from_slice(mid)?;
     push_decimal(text, after)
-}
-
-/// The hexadecimal digit of a number below 16.
-fn hex(digit: u8) -> u8
-    requires { digit < 16 }
-    ensures { result ≡ hex digit }
-{
-    if digit < 10 {
-        b'0' + digit
-    } else {
-        b'a' - 10 + digit
-    }
-}
-
-/// Adds a byte of a string of JSON: a quote, a backslash and control characters are escaped.
-#[tactic(auto, unfolding(line_forms::specs::Json::escaped))]
-fn push_escaped(text: &mut Vec<u8>, byte: u8) -> Result<(), AllocError>
-    ensures { OnOk result (text.new.items ≡ text.old.items ++ escaped byte) }
-{
-    if byte == b'"' || byte == b'\\' {
-        return text.extend_from_slice(&[b'\\', byte]);
-    }
-    if byte < b' ' {
-        return text.extend_from_slice(&[b'\\', b'u', b'0', b'0', hex(byte / 16), hex(byte % 16)]);
-    }
-    text.extend_from_slice(&[byte])
-}
-
-/// Adds the bytes of a string of JSON.
-fn push_bytes(text: &mut Vec<u8>, bytes: &[u8]) -> Result<(), AllocError>
-    ensures { OnOk result (text.new.items ≡ text.old.items ++ flat_map escaped bytes.now) }
-{
-    for byte in bytes {
-        push_escaped(text, *byte)?;
-    }
-    Ok(())
-}
-
-/// Adds bytes as a string of JSON.
-#[tactic(auto, unfolding(line_forms::specs::Json::string_json))]
-fn push_string(text: &mut Vec<u8>, bytes: &[u8]) -> Result<(), AllocError>
-    ensures { OnOk result (text.new.items ≡ text.old.items ++ string_json bytes.now) }
-{
-    text.push(b'"')?;
-    push_bytes(text, bytes)?;
-    text.push(b'"')?;
-    Ok(())
 }
 
 /// Adds the numbers of a line of text.
@@ -155,6 +109,44 @@ fn push_json_row(
     text.extend_from_slice(b"}\n")
 }
 
+/// Adds the numbers of a line for people, and its end.
+#[tactic(auto, unfolding(crate::specs::Rows::pretty_numbers))]
+fn push_pretty_numbers(text: &mut Vec<u8>, before: &Tally, after: &Tally) -> Result<(), AllocError>
+    ensures { OnOk result (text.new.items ≡ text.old.items ++ pretty_numbers before.now after.now) }
+{
+    push_pair(text, b"  pages ", before.pages, b" to ", after.pages)?;
+    push_pair(
+        text,
+        b", at night ",
+        before.at_night,
+        b" to ",
+        after.at_night,
+    )?;
+    push_pair(
+        text,
+        b", longest silence ",
+        before.silence,
+        b" s to ",
+        after.silence,
+    )?;
+    text.extend_from_slice(b" s\n")
+}
+
+/// Adds a line for people.
+#[tactic(auto, unfolding(crate::specs::Rows::pretty_row))]
+fn push_pretty_row(
+    text: &mut Vec<u8>,
+    name: &[u8],
+    before: &Tally,
+    after: &Tally,
+) -> Result<(), AllocError>
+    ensures { OnOk result
+        (text.new.items ≡ text.old.items ++ pretty_row name.now before.now after.now) }
+{
+    push_padded(text, name, 12)?;
+    push_pretty_numbers(text, before, after)
+}
+
 /// Adds a line of the table in a form.
 pub(crate) fn push_row(
     form: ChangeForm,
@@ -168,6 +160,7 @@ pub(crate) fn push_row(
 {
     match form {
         ChangeForm::Plain => push_plain_row(text, name, before, after),
+        ChangeForm::Pretty(_) => push_pretty_row(text, name, before, after),
         ChangeForm::Json => push_json_row(text, name, before, after),
     }
 }

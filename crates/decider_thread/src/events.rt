@@ -17,7 +17,7 @@ ghost use Rattle.decider_thread.specs.declared.Signal.TheVariants.{Over};
 
 use crate::Signal;
 use crate::log::DeciderLog;
-use crate::seats::{Seat, is_full, put_round};
+use crate::seats::{Seat, is_full, put_round, tell_held};
 use crate::setup::DeciderSetup;
 use decider::{Decider, Outbox};
 use delivery_worker::Gate;
@@ -123,7 +123,7 @@ pub(crate) fn decide_events<L: DeciderLog, G: Gate, R: Wait + Clock>(
 {
     let mut pause = Pause::new();
     for _ in setup.rt.forever() {
-        let moved = put_round(setup.queues, seats, outbox, setup.share.decider);
+        let moved = put_round(setup.gate, setup.queues, seats, outbox, setup.share.decider);
         match next_signal(ring, outbox) {
             None => {
                 if moved {
@@ -144,6 +144,7 @@ pub(crate) fn decide_events<L: DeciderLog, G: Gate, R: Wait + Clock>(
                     setup.gate.wanting();
                     return false;
                 }
+                tell_held(setup.gate, setup.share.decider, outbox);
             }
         }
     }

@@ -66,6 +66,7 @@ fn decide_all<L: DeciderLog, G: Gate, R: Wait + Clock>(
     skip_rest(setup.rt, ring, over);
     put_all(
         setup.rt,
+        setup.gate,
         setup.queues,
         seats,
         &mut outbox,

@@ -9,6 +9,7 @@ ghost use Rattle.due_model.specs.declared.item.Item.TheVariants.{End};
 
 use channel_queue::{LaneQueue, Pass};
 use decider::Outbox;
+use delivery_worker::Gate;
 use due_model::config::LaneId;
 use due_model::item::Item;
 use idle_pause::Pause;
@@ -26,7 +27,8 @@ pub struct Seat {
 }
 
 /// Puts the notice that has waited longest for a lane, unless the lane's queue is full. True: one was put.
-fn put_front(
+fn put_front<G: Gate>(
+    gate: &G,
     queue: &LaneQueue,
     seat: &mut Seat,
     outbox: &mut Outbox,
@@ -52,11 +54,22 @@ fn put_front(
         return false;
     }
     outbox.take_front(lane);
+    gate.queued(decider, lane);
     true
 }
 
+/// Tells the gate how many notices wait for each lane.
+pub(crate) fn tell_held<G: Gate>(gate: &G, decider: u8, outbox: &Outbox)
+    requires { length (lists outbox.now) < 256 }
+{
+    for lane in 0..outbox.len() as u8 {
+        gate.held(decider, LaneId(lane), outbox.waiting(LaneId(lane)) as u64);
+    }
+}
+
 /// Puts the front of each lane whose queue isn't full. True: one was put.
-pub(crate) fn put_round(
+pub(crate) fn put_round<G: Gate>(
+    gate: &G,
     queues: &[LaneQueue],
     seats: &mut [Seat],
     outbox: &mut Outbox,
@@ -77,6 +90,7 @@ pub(crate) fn put_round(
     for lane in 0..outbox.len() as u8 {
         let place = usize::from(lane);
         if put_front(
+            gate,
             &queues[place],
             &mut seats[place],
             outbox,
@@ -119,8 +133,9 @@ fn is_empty(outbox: &Outbox) -> bool
 }
 
 /// Puts all that waits.
-pub(crate) fn put_all<R: Wait + Clock>(
+pub(crate) fn put_all<G: Gate, R: Wait + Clock>(
     rt: &R,
+    gate: &G,
     queues: &[LaneQueue],
     seats: &mut [Seat],
     outbox: &mut Outbox,
@@ -143,7 +158,7 @@ pub(crate) fn put_all<R: Wait + Clock>(
         if is_empty(outbox) {
             return;
         }
-        if put_round(queues, seats, outbox, decider) {
+        if put_round(gate, queues, seats, outbox, decider) {
             pause.reset();
         } else {
             pause.rest(rt);

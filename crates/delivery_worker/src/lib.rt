@@ -55,6 +55,12 @@ pub trait Gate {
     /// Called by a decider before each event.
     fn turn(&self, decider: u8);
 
+    /// Called by a decider after each event, for each lane: how many notices wait for room in the lane's queue.
+    fn held(&self, _decider: u8, _lane: LaneId, _notices: u64) {}
+
+    /// Called by a decider for each notice that it has put into a lane's queue.
+    fn queued(&self, _decider: u8, _lane: LaneId) {}
+
     /// Called by the intake of a feed for each line that it refuses, with the line's number and the fault's name.
     fn refused(&self, _line: u64, _fault: &str) {}
 

@@ -47,9 +47,9 @@ fn push_escaped(text: &mut Vec<u8>, byte: u8) -> Result<(), AllocError>
     text.extend_from_slice(&[byte])
 }
 
-/// Adds bytes as a string.
+/// Adds bytes as a string of JSON, with its quotes. Where a growth is refused, some of it may stand.
 #[tactic(auto, unfolding(crate::specs::Json::string_json))]
-fn push_string(text: &mut Vec<u8>, bytes: &[u8]) -> Result<(), AllocError>
+pub fn push_string(text: &mut Vec<u8>, bytes: &[u8]) -> Result<(), AllocError>
     ensures { OnOk result (text.new.items ≡ text.old.items ++ string_json bytes.now) }
 {
     text.push(b'"')?;

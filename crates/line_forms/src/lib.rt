@@ -6,7 +6,7 @@ mod picks;
 mod plain;
 mod report_line;
 
-pub use json::push_json;
+pub use json::{push_json, push_string};
 pub use picks::Picks;
 pub use plain::push_plain;
 pub use report_line::ReportLine;

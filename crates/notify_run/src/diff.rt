@@ -4,6 +4,7 @@ ghost use Rattle.std.specs.Prelude.{◌≡◌};
 ghost use Rattle.std.specs.Process.{exit_status};
 ghost use Rattle.texts_compared.specs.Fault.{compare_status};
 
+use crate::pretty::row_form;
 use changed_notices::ChangeForm;
 use command_output::{AnyWriter, CommandFault, Ending};
 use due_model::zone::Zone;
@@ -11,6 +12,7 @@ use std::fs::File;
 use std::process::ExitCode;
 use text_lines::AnyReader;
 use texts_compared::{CompareFault, compare_files, compare_status};
+use who_missed::RowForm;
 
 /// Says on standard error what a comparison failed with, if it did, and gives its exit status.
 fn status_of_comparison<R: Eprint>(rt: &R, outcome: Result<Ending, CompareFault>) -> ExitCode
@@ -51,10 +53,10 @@ pub(crate) fn status_of_diff(
     changed: &str,
     json: bool,
 ) -> ExitCode {
-    let form = if json {
-        ChangeForm::Json
-    } else {
-        ChangeForm::Plain
+    let form = match row_form(rt, json) {
+        RowForm::Plain => ChangeForm::Plain,
+        RowForm::Pretty(coloured) => ChangeForm::Pretty(coloured),
+        RowForm::Json => ChangeForm::Json,
     };
     status_of_comparison(rt, do_diff(rt, zone, objects, changed, form))
 }

@@ -1,18 +1,25 @@
 //! The runs of a feed: of standard input, and of a file.
 
-use crate::status_of_run;
+use crate::{out_of_memory, status_of_run};
 use command_line::{FeedWords, LogWords};
 use command_output::AnyWriter;
 use due_model::zone::Zone;
 use feed_file::{Feed, FeedFile, FeedWays};
-use run_devices::{LogPlace, LoggedWords, RunSettings, do_logged_run, do_run};
+use run_devices::{
+    FeedTimes, LogPlace, LoggedWords, MeteredFeed, MetricsPlace, RunSettings, RunWords,
+    do_logged_run, do_run,
+};
+use std::alloc::{AllocError, Global};
 use std::io;
 use std::process::ExitCode;
 use std::rt::Stdin;
-use std::sync::Wait;
+use std::sync::{Arc, Wait};
 use std::thread::Threads;
 use std::time::Clock;
 use text_lines::AnyReader;
+
+/// A feed as a run reads it.
+type RunFeed = MeteredFeed<AnyReader<Feed<Stdin>>>;
 
 /// The feed of a run: standard input, or the file that is named, from its start.
 fn feed_of(rt: &HostRuntime, feed: FeedWords<'_>, is_quiet: bool) -> io::Result<Feed<Stdin>> {
@@ -25,6 +32,24 @@ fn feed_of(rt: &HostRuntime, feed: FeedWords<'_>, is_quiet: bool) -> io::Result<
         is_quiet,
     };
     Ok(Feed::File(FeedFile::open(rt, path, ways)?))
+}
+
+/// Where the metrics of a run are written to, if they are.
+fn metrics_place<'m>(
+    log: LogWords<'m>,
+    times: &'m Arc<FeedTimes, Global>,
+) -> Option<MetricsPlace<'m>> {
+    let path = log.metrics?;
+    Some(MetricsPlace { path, times })
+}
+
+/// The feed, when whose lines come is noted where metrics are written.
+fn noted_feed(feed: Feed<Stdin>, metrics: Option<MetricsPlace<'_>>) -> Result<RunFeed, AllocError> {
+    let times = match metrics {
+        Some(place) => Some(Arc::try_clone(place.times)?),
+        None => None,
+    };
+    Ok(MeteredFeed::new(AnyReader::new(feed), times))
 }
 
 /// Does a run, and gives its exit status. The file of its feed is opened before anything else.
@@ -43,6 +68,13 @@ pub(crate) fn status_of_feed<T: Threads + Wait + Clock + Sync>(
         let _ = rt.eprintln(format_args!("feed: {path}: not opened"));
         return ExitCode::from(1);
     };
+    let Ok(times) = Arc::new(rt.alloc(), FeedTimes::new(rt)) else {
+        return out_of_memory(rt);
+    };
+    let metrics = metrics_place(log, &times);
+    let Ok(opened) = noted_feed(opened, metrics) else {
+        return out_of_memory(rt);
+    };
     match log.file {
         Some(file) => {
             let fold = log.fold;
@@ -50,10 +82,18 @@ pub(crate) fn status_of_feed<T: Threads + Wait + Clock + Sync>(
                 objects,
                 channels,
                 log: LogPlace { file, fold },
+                metrics,
             };
             status_of_logged(rt, threads, zone, words, settings, opened)
         }
-        None => status_of_new(rt, threads, zone, objects, settings, channels, opened),
+        None => {
+            let words = RunWords {
+                objects,
+                channels,
+                metrics,
+            };
+            status_of_new(rt, threads, zone, words, settings, opened)
+        }
     }
 }
 
@@ -64,9 +104,8 @@ fn status_of_logged<T: Threads + Wait + Clock + Sync>(
     zone: &Zone,
     words: LoggedWords<'_, '_>,
     settings: RunSettings,
-    feed: Feed<Stdin>,
+    feed: RunFeed,
 ) -> ExitCode {
-    let feed = AnyReader::new(feed);
     let mut writer = AnyWriter::new(rt.stdout());
     let outcome = do_logged_run(rt, threads, zone, words, settings, feed, &mut writer);
     status_of_run(rt, outcome.map(|done| done.ending))
@@ -77,22 +116,11 @@ fn status_of_new<T: Threads + Wait + Clock + Sync>(
     rt: &HostRuntime,
     threads: &T,
     zone: &Zone,
-    objects: &str,
+    words: RunWords<'_, '_>,
     settings: RunSettings,
-    channels: Option<&[&str]>,
-    feed: Feed<Stdin>,
+    feed: RunFeed,
 ) -> ExitCode {
-    let feed = AnyReader::new(feed);
     let mut writer = AnyWriter::new(rt.stdout());
-    let outcome = do_run(
-        rt,
-        threads,
-        zone,
-        objects,
-        settings,
-        channels,
-        feed,
-        &mut writer,
-    );
+    let outcome = do_run(rt, threads, zone, words, settings, feed, &mut writer);
     status_of_run(rt, outcome.map(|done| done.ending))
 }

@@ -14,6 +14,7 @@ ghost use Rattle.steps.specs.Settings.{max_channels};
 
 mod diff;
 mod feeds;
+mod picture;
 mod pretty;
 mod who;
 mod why;
@@ -26,6 +27,7 @@ use diff::status_of_diff;
 use due_model::zone::Zone;
 use feeds::status_of_feed;
 use line_forms::Picks;
+use picture::status_of_picture;
 use pretty::pretty_through;
 use progress::{ProgressLine, Watcher};
 use replay::{replay_files, replay_in};
@@ -47,7 +49,7 @@ use why::status_of_why;
 use zones::{status_of_zone, zone_asked};
 
 /// Says on standard error what a command failed with, if it did, and gives its exit status.
-fn status_of<R: Eprint>(rt: &R, outcome: Result<Ending, CommandFault>) -> ExitCode
+pub(crate) fn status_of<R: Eprint>(rt: &R, outcome: Result<Ending, CommandFault>) -> ExitCode
     ensures { exit_status result ≡ outcome_status outcome }
 {
     if let Err(fault) = outcome {
@@ -120,7 +122,7 @@ fn replay_through<P: Watcher>(
 }
 
 /// Which lines are wanted.
-fn picks_of(words: ShownWords<'_>) -> Picks<'_>
+pub(crate) fn picks_of(words: ShownWords<'_>) -> Picks<'_>
     ensures { ArePickedBy words.entry result }
 {
     Picks {
@@ -131,7 +133,7 @@ fn picks_of(words: ShownWords<'_>) -> Picks<'_>
 }
 
 /// Which lines are wanted, and how they are written.
-fn shown_lines(alloc: Global, words: ShownWords<'_>) -> ShownLines<'_>
+pub(crate) fn shown_lines(alloc: Global, words: ShownWords<'_>) -> ShownLines<'_>
     ensures { AreShownBy words.entry result }
 {
     let form = if words.json {
@@ -230,7 +232,10 @@ fn status_of_request<T: Threads + Wait + Clock + Sync>(
         Err(fault) => return status_of_zone(rt, words, fault),
     };
     let outcome = match request {
-        Request::Replay { objects, shown, .. } => do_replay(rt, &zone, objects, shown),
+        Request::Replay { objects, shown, .. } => match shown.picture {
+            Some(path) => return status_of_picture(rt, &zone, objects, shown, path),
+            None => do_replay(rt, &zone, objects, shown),
+        },
         Request::Trace {
             settings,
             standbys,

@@ -1,5 +1,8 @@
 //! A report for people, on standard output.
 
+ghost use Rattle.std.specs.Prelude.{◌≡◌, true};
+ghost use Rattle.who_missed.specs.declared.forms.RowForm.TheVariants.{Json};
+
 use command_output::{AnyWriter, CommandFault, Ending};
 use due_model::zone::Zone;
 use line_forms::Picks;
@@ -9,9 +12,10 @@ use std::env::{self, VarError};
 use std::fs::File;
 use std::io::IsTerminal;
 use text_lines::AnyReader;
+use who_missed::RowForm;
 
 /// Whether standard output takes colours: it is a terminal, and the variable NO_COLOR isn't set, or is empty.
-fn has_colours(rt: &HostRuntime) -> bool {
+pub(crate) fn has_colours(rt: &HostRuntime) -> bool {
     if !rt.stdout().is_terminal() {
         return false;
     }
@@ -19,6 +23,19 @@ fn has_colours(rt: &HostRuntime) -> bool {
         Err(VarError::NotPresent) => true,
         Ok(value) => value.is_empty(),
         Err(_) => false,
+    }
+}
+
+/// How rows are written: as JSON where that is asked for, and else for people where standard output is a terminal.
+pub(crate) fn row_form(rt: &HostRuntime, json: bool) -> RowForm
+    ensures { json ≡ true → result ≡ Json }
+{
+    if json {
+        RowForm::Json
+    } else if rt.stdout().is_terminal() {
+        RowForm::Pretty(has_colours(rt))
+    } else {
+        RowForm::Plain
     }
 }
 

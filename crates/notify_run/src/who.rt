@@ -6,6 +6,7 @@ ghost use Rattle.due_model.specs.Limits.{last_moment};
 ghost use Rattle.notify_run.specs.Times.{IsBadLength, IsBadTime, IsNoMoment};
 ghost use Rattle.who_told.specs.Fault.{who_status};
 
+use crate::pretty::row_form;
 use crate::{status_of, status_of_words};
 use command_line::WhoWords;
 use command_output::{AnyWriter, CommandFault, Ending};
@@ -96,8 +97,9 @@ fn do_who<'a>(
     let minutes = u32::from(minutes);
     let supposed = supposed_of(down, host, service, asked.state, moment, minutes);
     let objects = AnyReader::new(file);
+    let form = row_form(rt, asked.json);
     let mut writer = AnyWriter::new(rt.stdout());
-    who(rt.alloc(), zone, objects, &supposed, &mut writer)
+    who(rt.alloc(), zone, objects, &supposed, form, &mut writer)
 }
 
 /// Writes who would be told of what is asked, and gives the exit status. Its times are looked at before anything else.

@@ -6,6 +6,7 @@ ghost use Rattle.due_model.specs.Accepted.{IsAccepted};
 ghost use Rattle.due_model.specs.Limits.{last_moment};
 ghost use Rattle.notify_run.specs.Times.{IsBadSpan, IsNoMoment};
 
+use crate::pretty::row_form;
 use crate::{status_of, status_of_words};
 use command_input::read_object_file;
 use command_line::WhyWords;
@@ -116,6 +117,7 @@ pub(crate) fn status_of_why(
         contact: words.contact,
         from,
         to,
+        form: row_form(rt, words.json),
     };
     status_of_known(rt, zone, objects, asked)
 }

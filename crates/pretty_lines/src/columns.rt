@@ -54,9 +54,9 @@ fn push_blanks(text: &mut Vec<u8>, count: usize) -> Result<(), AllocError>
     Ok(())
 }
 
-/// Adds a text, and blanks up to a width.
+/// Adds a text, and blanks up to a width, in characters. A refused growth is the only error.
 #[tactic(auto, unfolding(crate::specs::Columns::padded))]
-pub(crate) fn push_padded(text: &mut Vec<u8>, value: &[u8], width: usize) -> Result<(), AllocError>
+pub fn push_padded(text: &mut Vec<u8>, value: &[u8], width: usize) -> Result<(), AllocError>
     ensures { OnOk result (text.new.items ≡ text.old.items ++ padded width value.now) }
 {
     text.extend_from_slice(value)?;
@@ -137,12 +137,8 @@ pub fn widths_in(
     }
 }
 
-/// Adds what begins a colour, where there are colours.
-pub(crate) fn push_paint(
-    text: &mut Vec<u8>,
-    coloured: bool,
-    colour: &[u8],
-) -> Result<(), AllocError>
+/// Adds what begins a colour, given by its number for a terminal, where there are colours. A refused growth is the only error.
+pub fn push_paint(text: &mut Vec<u8>, coloured: bool, colour: &[u8]) -> Result<(), AllocError>
     ensures { OnOk result (text.new.items ≡ text.old.items ++ paint coloured colour.now) }
 {
     if !coloured {
@@ -153,8 +149,8 @@ pub(crate) fn push_paint(
     text.extend_from_slice(b"m")
 }
 
-/// Adds what ends it.
-pub(crate) fn push_unpaint(text: &mut Vec<u8>, coloured: bool) -> Result<(), AllocError>
+/// Adds what ends it. A refused growth is the only error.
+pub fn push_unpaint(text: &mut Vec<u8>, coloured: bool) -> Result<(), AllocError>
     ensures { OnOk result (text.new.items ≡ text.old.items ++ unpaint coloured) }
 {
     if !coloured {

@@ -5,5 +5,6 @@ mod columns;
 mod lines;
 mod runs;
 
-pub use columns::{Look, Widths, widths_in};
+pub use columns::{Look, Widths, push_padded, push_paint, push_unpaint, widths_in};
+pub use lines::push_line;
 pub use runs::{Run, Runs, add_line};

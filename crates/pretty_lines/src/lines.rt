@@ -348,7 +348,7 @@ fn push_withheld(
 }
 
 /// Adds a line. A refused growth is the only error.
-pub(crate) fn push_line(
+pub fn push_line(
     alloc: Global,
     text: &mut Vec<u8>,
     config: &Config,

@@ -10,7 +10,7 @@ mod pretty;
 use command_output::{CommandFault, Ending, Sink};
 use due_model::zone::Zone;
 use line_forms::Picks;
-use pretty::PrettyLines;
+pub use pretty::PrettyLines;
 use progress::Watcher;
 use report_telling::{tell_files, tell_in};
 use std::alloc::Global;

@@ -23,8 +23,8 @@ pub struct PrettyLines<'a> {
 }
 
 impl<'a> PrettyLines<'a> {
-    /// One that was told no line yet.
-    pub(crate) fn new(
+    /// One that was told no line yet. A refused growth is the only error.
+    pub fn new(
         alloc: Global,
         picks: Picks<'a>,
         coloured: bool,

@@ -1,5 +1,5 @@
 -- The report of a run: what its feed gives, and then what became of the messages of each lane.
-use Rattle.std.specs.Prelude.{◌≡◌, ℕ, Bool, false, true, not, ltb, ◌==◌, List, [], ◌++◌, ◌⊎◌, flat_map, length, slice_index_or, Option, Result, IsErrOf, if◌then◌else◌}
+use Rattle.std.specs.Prelude.{◌≡◌, ℕ, Bool, false, true, not, ltb, ◌==◌, List, [], ◌++◌, ◌⊎◌, flat_map, length, slice_index_or, Option, if◌then◌else◌}
 use Rattle.std.specs.List.{list_any, range_with_len}
 use Rattle.due_model.specs.declared.config.Config.{Config}
 use Rattle.due_model.specs.declared.notice.Notice.{Notice}
@@ -104,15 +104,17 @@ WritesReport can_fail is_open c zone given tie known ending before after =
     × (end.memory ≡ false) × (ending ≡ ending_of end)
     × Writes before after (report_text c end)
 
--- a front of it was; where that was the output's fault, there was memory for the run
+-- A front of it was; where that was the output's fault, there was memory for the run. Or nothing was read for want of memory, and nothing
+-- written.
 abbrev pub WritesReportFront : (can_fail is_open : Bool) → Config → Zone → (given : ℕ → ℕ)
-    → (tie : List LaneParts → Type 0) → (known : Option (List ℕ)) → Result Ending CommandFault → (before after : Option (List ℕ))
+    → (tie : List LaneParts → Type 0) → (known : Option (List ℕ)) → CommandFault → (before after : Option (List ℕ))
     → Type 0
-WritesReportFront can_fail is_open c zone given tie known result before after =
-    (end : RunEnd)
+WritesReportFront can_fail is_open c zone given tie known fault before after =
+    ((end : RunEnd)
     × IsRun can_fail is_open c zone given tie known end
-    × (IsErrOf result Output → end.memory ≡ false)
-    × WritesFront before after (report_text c end)
+    × (fault ≡ Output → end.memory ≡ false)
+    × WritesFront before after (report_text c end))
+    ⊎ ((fault ≡ NoMemory) × (after ≡ before))
 
 -- ---- where the deciders have logs
 

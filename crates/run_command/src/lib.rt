@@ -35,7 +35,8 @@ use text_lines::Input;
 /// Reads a feed to its end, hands what its events make due to the channels of the lanes, in threads, and writes the report of
 /// that once the feed is over and all lanes are closed: the `R` lines of refused lines of the feed; the `S` and `C` lines of
 /// what was suppressed; and lane by lane the `T` lines of what its channels have taken, the `U` lines of what it gave up, each in
-/// order, where it was given several channels the `G` lines of how many each that served has taken, and its `Z` line. Where the output fails, a front of the report was written. Where memory runs out in the run it reads
+/// order, where it was given several channels the `G` lines of how many each that served has taken, and its `Z` line. Where there is no memory for these lines
+/// nothing is read and nothing is sent. Where the output fails, a front of the report was written. Where memory runs out in the run it reads
 /// no further, and what is there is told. A line whose stamp is past the feed's horizon is refused as `Ahead`. The
 /// watcher is told before lines are written. `Undelivered` says that a lane gave
 /// something up, `Short` that the feed ended before its input; of both, the latter is said.
@@ -70,16 +71,18 @@ pub fn run<
         (λ l. channels_on (λ post. post.lane.0) (λ post. post.channel) l posts.items) result.1.items)
         (R.remaining feed.reader) ending
         (W.contents writer.old) (W.contents writer.new)) }
-    // Or a front of it.
-    ensures front { WritesReportFront R.can_fail (H.is_open feed.horizon) config.now zone.now
+    // Or a front of it, or nothing was read.
+    ensures front { IfErr result.0 (λ fault. WritesReportFront R.can_fail (H.is_open feed.horizon) config.now zone.now
         (count_of (λ post. post.lane.0) posts.items)
         (AreTold C.account C.offered (λ cs. cs.items) settings.tries config.now
         (λ l. channels_on (λ post. post.lane.0) (λ post. post.channel) l posts.items) result.1.items)
-        (R.remaining feed.reader) result.0
-        (W.contents writer.old) (W.contents writer.new) }
+        (R.remaining feed.reader) fault
+        (W.contents writer.old) (W.contents writer.new)) }
     ensures fault { IfErr result.0 (λ fault. IsWriteFault W.can_fail fault) }
 {
-    let room = Lines::new(alloc);
+    let Ok(lines) = Lines::new(alloc) else {
+        return (Err(CommandFault::NoMemory), Vec::new(alloc));
+    };
     let setup = Setup {
         rt,
         alloc,
@@ -90,13 +93,8 @@ pub fn run<
     };
     let (end, channels) = Engine::run_within(setup, feed, posts, settings);
     watcher.make_way();
-    match room {
-        Ok(lines) => (
-            outcome_of(&end, tell(lines, writer, config, &end)),
-            channels,
-        ),
-        Err(_) => (Err(CommandFault::NoMemory), channels),
-    }
+    let told = tell(lines, writer, config, &end);
+    (outcome_of(&end, told), channels)
 }
 
 /// Writes the report of a run.

@@ -1,4 +1,5 @@
 -- The posts of channels, one on each lane in order.
+use Rattle.command_output.specs.declared.outcome.CommandFault.TheVariants as memory
 use Rattle.std.proofs.Common.{◌≡◌, ◌==◌, ◌<◌, ◌+◌, ℕ, suc, Bool, true, false, cond, ⊎_elim, filter, Option, List, [], ◌∷◌, ◌++◌, length, get_or, map, drop, take, refl, subst, ap, ap₂, sym, ◌∙◌, append_assoc, length-append, arith}
 use Rattle.std.proofs.lemmas.List.{length-map, map-append, take_all, take_more}
 use Rattle.std.proofs.lemmas.Bool.{cases_Bool}
@@ -140,6 +141,9 @@ each_opened kind word_kind name named lane_of channels words lanes kinds names =
     same_length kind word_kind channels words kinds ∙ sym (length-map words name) ∙ same_length named lane_of (map name words) lanes names
 
 -- a fault of none of its channels, after all checks
+pub fails_without_memory : (texts : List (List ℕ)) (config : Config) (lanes : List LaneId) → AreRight texts config lanes → RunFails texts (faults.Command memory.NoMemory)
+fails_without_memory texts config lanes right = (right.words, right.read)
+
 pub command_fails : (texts : List (List ℕ)) (fault : RunFault) (config : Config) (lanes : List LaneId) → AreRight texts config lanes → IsCommandFault fault → RunFails texts fault
 command_fails texts (faults.Channel fault) config lanes right is = absurd is
 command_fails texts (faults.Command fault) config lanes right is = (right.words, right.read)

@@ -1,4 +1,4 @@
-//! What counts the events and the letters of a run as it goes.
+//! What counts the events, the notices and the letters of a run as it goes.
 
 ghost use Rattle.std.specs.Prelude.{◌≡◌, ◌↔◌, ◌+◌, ◌<◌, ◌≤◌, ◌∷◌, ◌++◌, [], length, IsTrue, IsErrOf};
 ghost use Rattle.std.specs.Prelude.{OnErr, OnOk};
@@ -17,7 +17,7 @@ use std::alloc::{AllocError, Global};
 use std::sync::Arc;
 use std::time::Duration;
 
-/// A gate that admits all, counts the events, those that the first decider comes to, says how long a lane waits before it tries a letter
+/// A gate that admits all, counts the events, those that the first decider comes to, and what becomes of the notices, says how long a lane waits before it tries a letter
 /// again, and writes what is given up and what is over to the run's log, if it has one.
 #[derive(Drop)]
 pub struct CountingGate {
@@ -53,15 +53,20 @@ impl Gate for CountingGate {
         }
     }
 
+    fn held(&self, decider: u8, lane: LaneId, notices: u64) {
+        self.teller.count_held(decider, lane, notices);
+    }
+
+    fn queued(&self, decider: u8, lane: LaneId) {
+        self.teller.count_queued(decider, lane);
+    }
+
     fn refused(&self, line: u64, fault: &str) {
         self.teller.say_refused(line, fault);
     }
 
     fn given_up(&self, notice: &Notice) {
-        self.teller.log_line(&OutputLine::Undelivered {
-            lane: notice.lane,
-            notice: *notice,
-        });
+        self.teller.give_up(notice);
     }
 
     fn channel_over(&self, lane: LaneId, number: u64, taken: u64) {
@@ -154,11 +159,12 @@ impl<C: Channel> Channel for CountedChannel<C> {
 
     fn deliver(&mut self, letter: &Letter) -> Result<(), Fault> {
         let outcome = self.channel.deliver(letter);
-        if outcome.is_ok() {
-            self.counts.count_message();
-            self.teller.taken(letter);
-        } else {
-            self.teller.failed(letter);
+        match outcome {
+            Ok(()) => {
+                self.counts.count_message();
+                self.teller.taken(letter);
+            }
+            Err(fault) => self.teller.failed(letter, fault),
         }
         outcome
     }

@@ -16,6 +16,7 @@ use crate::horizon::ClockHorizon;
 use crate::log_writer::LogWriter;
 use crate::run::{RunDone, SentChannel, open_words, posts_of};
 use crate::run_log::RunLog;
+use crate::run_metrics::{MetricsPlace, metrics_at};
 use crate::settings::RunSettings;
 use crate::teller::Teller;
 use crate::watched::Watched;
@@ -37,7 +38,7 @@ use text_lines::Input;
 type DeciderLines = LineLog<AnyWriter<LogWriter>>;
 
 /// What a run with a log is asked.
-#[derive(Clone, Copy, Debug)]
+#[derive(Clone, Copy)]
 pub struct LoggedWords<'m, 'a> {
     /// The file with the object text.
     pub objects: &'m str,
@@ -45,6 +46,8 @@ pub struct LoggedWords<'m, 'a> {
     pub channels: Option<&'m [&'a str]>,
     /// Where the lines of the report go.
     pub log: LogPlace<'a>,
+    /// Where its metrics are written to, if they are.
+    pub metrics: Option<MetricsPlace<'m>>,
 }
 
 /// Where the report of a run goes as it goes.
@@ -94,6 +97,7 @@ pub fn do_logged_run<'m, 'a, T: Threads + Wait + Clock + Sync, R: Input + Drop, 
         LogSettings {
             run: settings,
             log: words.log,
+            metrics: words.metrics,
         },
         OpenedLanes { lanes, channels },
         feed,
@@ -103,10 +107,11 @@ pub fn do_logged_run<'m, 'a, T: Threads + Wait + Clock + Sync, R: Input + Drop, 
 }
 
 /// How a run with a log is set up.
-#[derive(Clone, Copy, Debug)]
-struct LogSettings<'a> {
+#[derive(Clone, Copy)]
+struct LogSettings<'m, 'a> {
     run: RunSettings,
     log: LogPlace<'a>,
+    metrics: Option<MetricsPlace<'m>>,
 }
 
 /// The channels of a run, each for the lane at its place.
@@ -122,7 +127,7 @@ fn log_through<'a, T: Threads + Wait + Clock + Sync, R: Input + Drop, W: Sink>(
     threads: &T,
     config: Config,
     zone: &Zone,
-    settings: LogSettings<'_>,
+    settings: LogSettings<'_, '_>,
     opened: OpenedLanes,
     feed: R,
     writer: &mut W,
@@ -140,7 +145,13 @@ fn log_through<'a, T: Threads + Wait + Clock + Sync, R: Input + Drop, W: Sink>(
     let alloc = rt.alloc();
     let config = Arc::new(alloc, config)?;
     let log = opened_log(rt, Arc::try_clone(&config)?, settings.log.file)?;
-    let watched = Watched::new(rt, threads, settings.run.quiet, Some(log))?;
+    let metrics = metrics_at(
+        rt,
+        &config,
+        settings.run.settings.deciders,
+        settings.metrics,
+    )?;
+    let watched = Watched::new(rt, threads, settings.run.quiet, Some(log), metrics)?;
     let OpenedLanes { lanes, channels } = opened;
     let posts = posts_of(
         alloc,
@@ -190,7 +201,8 @@ pub fn log_posts<C: Channel, T: Threads + Wait + Clock + Sync, R: Input + Drop, 
     let deciders = settings.settings.deciders;
     let logs = decider_lines(alloc, config, deciders, fold, &teller)?;
     let rt = *watched.rt;
-    let watcher = watched.watcher;
+    let mut watcher = watched.watcher;
+    watcher.write_metrics(Arc::try_clone(&teller)?);
     let mut way = WayMaker::new(Arc::try_clone(&watched.counts)?);
     let LoggedEnd {
         outcome,
@@ -231,8 +243,8 @@ fn finish_logs(logs: Vec<DeciderLines>) {
     }
 }
 
-/// The log in the file at a path.
-fn opened_log(
+/// The log in the file at a path. One that can't be opened is what the output fails at.
+pub fn opened_log(
     rt: &HostRuntime,
     config: Arc<Config, Global>,
     path: &str,

@@ -1,7 +1,7 @@
 //! A file that lines are appended to, which may be moved meanwhile.
 
 use std::fs::{File, Metadata, OpenOptions, metadata};
-use std::io::{self, ErrorKind, Write};
+use std::io::{self, ErrorKind, Read, Seek, SeekFrom, Write};
 use std::os::unix::fs::MetadataExt;
 
 /// A file by its name, which lines are appended to. Where the name leads elsewhere, since the file was moved or removed, it is opened anew
@@ -46,7 +46,7 @@ impl RotatedFile {
 }
 
 impl OpenedFile {
-    /// The file at a path, which is made if it isn't there.
+    /// The file at a path, which is made if it isn't there. Where its last line has no end, since it was cut in a kill, it gets one.
     fn at(rt: &HostRuntime, path: &str) -> Option<OpenedFile> {
         let file = OpenOptions::new()
             .append(true)
@@ -54,11 +54,15 @@ impl OpenedFile {
             .open(rt, path)
             .ok()?;
         let found = file.metadata().ok()?;
-        Some(OpenedFile {
+        let mut opened = OpenedFile {
             device: found.dev(),
             inode: found.ino(),
             file,
-        })
+        };
+        if found.len() > 0 && !ends_in_newline(rt, path) {
+            let _ = opened.append(b"\n");
+        }
+        Some(opened)
     }
 
     /// Whether it is this one.
@@ -94,6 +98,19 @@ impl OpenedFile {
             let _ = self.file.set_len(found.len().saturating_sub(count as u64));
         }
     }
+}
+
+/// Whether the last byte of the file at a path is a newline, or can't be read.
+fn ends_in_newline(rt: &HostRuntime, path: &str) -> bool {
+    let Ok(file) = File::open(rt, path) else {
+        return true;
+    };
+    let mut file = file;
+    let mut last = [b'\n'];
+    if file.seek(SeekFrom::End(-1)).is_ok() {
+        let _ = file.read(&mut last);
+    }
+    last[0] == b'\n'
 }
 
 impl Write for RotatedFile {

@@ -12,6 +12,7 @@ use crate::channels::{OpenedChannel, open_channels};
 use crate::counted::CountedChannel;
 use crate::fault::RunFault;
 use crate::horizon::ClockHorizon;
+use crate::run_metrics::{MetricsPlace, metrics_at};
 use crate::settings::RunSettings;
 use crate::teller::{Teller, teller_of};
 use crate::watched::Watched;
@@ -34,6 +35,17 @@ use text_lines::{AnyReader, Input};
 /// A channel of a run: it was opened as a word says, and counts what it takes.
 pub type SentChannel = CountedChannel<OpenedChannel>;
 
+/// What a run is asked.
+#[derive(Clone, Copy)]
+pub struct RunWords<'m, 'a> {
+    /// The file with the object text.
+    pub objects: &'m str,
+    /// The channel words.
+    pub channels: Option<&'m [&'a str]>,
+    /// Where its metrics are written to, if they are.
+    pub metrics: Option<MetricsPlace<'m>>,
+}
+
 /// What a run leaves that was done.
 #[derive(Drop)]
 pub struct RunDone {
@@ -46,32 +58,33 @@ pub struct RunDone {
 /// Does a run. The shape of all words is looked at before the object text is read; their names once that is accepted; then
 /// the channels are opened, in the order of the words; and then the feed is read. The handle is of the machine, and again that
 /// by which threads are started.
-pub fn do_run<'a, T: Threads + Wait + Clock + Sync, R: Input + Drop, W: Sink>(
+pub fn do_run<'m, 'a, T: Threads + Wait + Clock + Sync, R: Input + Drop, W: Sink>(
     rt: &HostRuntime,
     threads: &T,
     zone: &Zone,
-    objects: &str,
+    words: RunWords<'m, 'a>,
     settings: RunSettings,
-    channels: Option<&[&'a str]>,
     feed: R,
     writer: &mut W,
 ) -> Result<RunDone, RunFault<'a>>
     // It is done only where all checks of the words went well, and then the report of a run was written, with channels for the
     // lanes that they name; and lane by lane, what it tells is what the channels that come back have taken.
     ensures ok { let texts = map (λ text. text.now)
-        (unwrap_or (option_map (λ given. given.now) channels.entry) [])
+        (unwrap_or (option_map (λ given. given.now) words.entry.channels) [])
         in IfOk result (λ done. IsDone ⟦<CountedChannel<OpenedChannel> as Channel>⟧.account
         ⟦<CountedChannel<OpenedChannel> as Channel>⟧.offered (λ cs. cs.items) (λ c. opened c.channel)
         texts R.can_fail (is_none settings.ahead) zone.now settings.settings.tries done.channels.items (R.remaining feed) done.ending
         (W.contents writer.old) (W.contents writer.new)) }
     // What it fails with, and that the earlier checks went well.
     ensures fault { let texts = map (λ text. text.now)
-        (unwrap_or (option_map (λ given. given.now) channels.entry) [])
+        (unwrap_or (option_map (λ given. given.now) words.entry.channels) [])
         in IfErr result (RunFails texts) }
 {
-    let (config, lanes, opened) = open_words(rt, objects, channels, settings.limit())?;
+    let (config, lanes, opened) = open_words(rt, words.objects, words.channels, settings.limit())?;
+    let metrics = metrics_at(rt, &config, settings.settings.deciders, words.metrics)?;
+    let watched = Watched::new(rt, threads, settings.quiet, None, metrics)?;
     let done = run_through(
-        rt, threads, &config, zone, settings, &lanes, opened, feed, writer,
+        watched, &config, zone, settings, &lanes, opened, feed, writer,
     )?;
     Ok(done)
 }
@@ -156,7 +169,7 @@ pub fn posts_of(
 }
 
 /// Reads a feed, with these posts, where of several for one lane the first serves and each other where the one before has failed. What is
-/// counted is shown until it is over. The channels come back, lane by lane.
+/// counted is shown until it is over, and its metrics are written. The channels come back, lane by lane.
 pub fn run_posts<C: Channel, T: Threads + Wait + Clock + Sync, R: Input + Drop, W: Sink>(
     watched: Watched<'_, T>,
     config: &Config,
@@ -176,7 +189,9 @@ pub fn run_posts<C: Channel, T: Threads + Wait + Clock + Sync, R: Input + Drop, 
     let closers = Closers::new(alloc, config.lanes.len() as u8)?;
     let gate = watched.gate(settings.pause)?;
     let rt = *watched.rt;
+    let teller = Arc::try_clone(&watched.teller)?;
     let mut watcher = watched.watcher;
+    watcher.write_metrics(teller);
     let (outcome, channels) = run(
         watched.threads,
         alloc,
@@ -203,8 +218,7 @@ pub fn run_posts<C: Channel, T: Threads + Wait + Clock + Sync, R: Input + Drop, 
 /// Reads a feed, with channels for these lanes, one each in order, where of several for one lane the first serves and each other
 /// where the one before has failed. A terminal at standard error shows how far it is.
 fn run_through<'a, T: Threads + Wait + Clock + Sync, R: Input + Drop, W: Sink>(
-    rt: &HostRuntime,
-    threads: &T,
+    watched: Watched<'_, T>,
     config: &Config,
     zone: &Zone,
     settings: RunSettings,
@@ -223,9 +237,8 @@ fn run_through<'a, T: Threads + Wait + Clock + Sync, R: Input + Drop, W: Sink>(
         (R.remaining feed) done.ending (W.contents writer.old) (W.contents writer.new)) }
     ensures fault { IfErr result IsCommandFault }
 {
-    let watched = Watched::new(rt, threads, settings.quiet, None)?;
     let posts = posts_of(
-        rt.alloc(),
+        watched.rt.alloc(),
         config,
         lanes,
         channels,

@@ -1,10 +1,14 @@
 //! What a run says at once on standard error: a line of the feed that is refused, a channel that failed for good, a lane that
-//! closed since its last channel has, or that has none, and want of memory. And what it writes to its log, if it has one.
+//! closed since its last channel has, or that has none, and want of memory. And what it writes to its log, and counts for its metrics, if it
+//! has them.
 
 use crate::run_log::RunLog;
+use crate::run_metrics::RunMetrics;
+use channel::Fault;
 use channel::letter::Letter;
 use command_output::OutputLine;
 use due_model::config::{Config, LaneId};
+use due_model::notice::Notice;
 use notice_text::texts::lane_name;
 use progress::Counts;
 use std::alloc::{AllocError, Global};
@@ -18,7 +22,8 @@ const EMPTY: &str = "\r\x1b[K";
 /// What is said where memory ran out.
 const WANTING: &str = "notify-run: memory: some of what comes now stays undecided or undelivered\n";
 
-/// What says lines on standard error, from any thread, and each by one call; what can't be written is left out. And what writes lines of the run's log.
+/// What says lines on standard error, from any thread, and each by one call; what can't be written is left out. And what writes lines of the run's log,
+/// and counts for its metrics.
 #[derive(Drop)]
 pub struct Teller {
     rt: HostRuntime,
@@ -30,15 +35,17 @@ pub struct Teller {
     /// Whether it was said that memory ran out.
     was_wanting: AtomicBool,
     log: Option<RunLog>,
+    metrics: Option<RunMetrics>,
 }
 
 impl Teller {
-    /// A teller beside what shows these counts, or one that says nothing; with the log of the run, if it has one.
+    /// A teller beside what shows these counts, or one that says nothing; with the log and the metrics of the run, if it has them.
     pub fn new(
         rt: &HostRuntime,
         counts: Arc<Counts, Global>,
         is_quiet: bool,
         log: Option<RunLog>,
+        metrics: Option<RunMetrics>,
     ) -> Teller {
         let begin = if rt.stderr().is_terminal() { EMPTY } else { "" };
         Teller {
@@ -48,6 +55,7 @@ impl Teller {
             begin,
             was_wanting: AtomicBool::new(false),
             log,
+            metrics,
         }
     }
 
@@ -96,6 +104,50 @@ impl Teller {
             Some(log) => log.lost(),
             None => 0,
         }
+    }
+
+    /// Whether it counts for metrics.
+    pub(crate) fn is_metered(&self) -> bool {
+        self.metrics.is_some()
+    }
+
+    /// Counts that a decider holds so many notices of a lane.
+    pub(crate) fn count_held(&self, decider: u8, lane: LaneId, notices: u64) {
+        if let Some(metrics) = &self.metrics {
+            metrics.meters.hold(decider, lane, notices);
+        }
+    }
+
+    /// Counts that a decider has put one of them into the lane's queue.
+    pub(crate) fn count_queued(&self, decider: u8, lane: LaneId) {
+        if let Some(metrics) = &self.metrics {
+            metrics.meters.queue(decider, lane);
+        }
+    }
+
+    /// Counts a notice that a lane gives up, and writes it to the log, if there is one.
+    pub(crate) fn give_up(&self, notice: &Notice) {
+        if let Some(metrics) = &self.metrics {
+            metrics.meters.give_up(notice.lane);
+        }
+        self.log_line(&OutputLine::Undelivered {
+            lane: notice.lane,
+            notice: *notice,
+        });
+    }
+
+    /// Writes the metrics, if there are any. Where their file can't be written, that is said once.
+    pub(crate) fn write_metrics(&self) {
+        if let Some(metrics) = &self.metrics {
+            if !metrics.write(self.counts.progress().events) {
+                self.say("metrics: the file can't be written; the run goes on");
+            }
+        }
+    }
+
+    /// The metrics, if there are any.
+    pub(crate) fn metrics(&self) -> Option<&RunMetrics> {
+        self.metrics.as_ref()
     }
 
     /// Says that a line of the feed is refused, and writes it to the log, if there is one.
@@ -175,15 +227,16 @@ pub(crate) fn teller_of(
         }
     }
     let name = String::from_str(alloc, name_of(config, lane))?;
-    Ok(LaneTeller::new(teller, name, before, has_next))
+    Ok(LaneTeller::new(teller, lane, name, before, has_next))
 }
 
 /// What is said of one channel of a lane.
 #[derive(Drop)]
 pub struct LaneTeller {
     teller: Arc<Teller, Global>,
-    /// The name of its command.
-    lane: String,
+    /// Its command, and the name of that.
+    lane: LaneId,
+    name: String,
     /// Which channel of the lane it is, the first 0.
     place: usize,
     /// Whether another stands by.
@@ -196,30 +249,40 @@ impl LaneTeller {
     /// Of a channel that has taken nothing.
     pub fn new(
         teller: Arc<Teller, Global>,
-        lane: String,
+        lane: LaneId,
+        name: String,
         place: usize,
         has_next: bool,
     ) -> LaneTeller {
         LaneTeller {
             teller,
             lane,
+            name,
             place,
             has_next,
             failed: None,
         }
     }
 
-    /// A letter was taken: that is written to the log, if there is one.
+    /// A letter was taken: that is counted, and written to the log, if there is one.
     pub(crate) fn taken(&mut self, letter: &Letter) {
         self.failed = None;
-        if let Some(log) = &self.teller.log {
-            self.teller
-                .say_log(log.write_taken(self.lane.as_str(), letter));
+        if let Some(metrics) = &self.teller.metrics {
+            metrics.meters.take(self.lane);
         }
+        self.teller.log_line(&OutputLine::Taken {
+            lane: self.lane,
+            notice: letter.notice,
+        });
     }
 
-    /// A try of a letter has failed.
-    pub(crate) fn failed(&mut self, letter: &Letter) {
+    /// A try of a letter has failed: where it was the device that did, that is counted.
+    pub(crate) fn failed(&mut self, letter: &Letter, fault: Fault) {
+        if fault == Fault::Device {
+            if let Some(metrics) = &self.teller.metrics {
+                metrics.meters.fail(self.lane);
+            }
+        }
         if self.failed.is_none() {
             self.failed = named(self.teller.rt.alloc(), letter);
         }
@@ -235,7 +298,7 @@ impl LaneTeller {
     /// Says that the channel failed for good at that letter, and what becomes of this. A refused growth is the only error.
     fn say_end(&self, letter: &str) -> Result<(), AllocError> {
         let alloc = self.teller.rt.alloc();
-        let lane = self.lane.as_str();
+        let lane = self.name.as_str();
         let place = self.place;
         let next = place.saturating_add(1);
         let text = if self.has_next {

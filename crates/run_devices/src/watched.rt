@@ -1,7 +1,8 @@
-//! What a run counts by, what says at once what fails, and who shows how far it is.
+//! What a run counts by, what says at once what fails, and who shows how far it is and writes its metrics.
 
 use crate::counted::CountingGate;
 use crate::run_log::RunLog;
+use crate::run_metrics::RunMetrics;
 use crate::teller::Teller;
 use crate::watcher::RunWatcher;
 use progress::Counts;
@@ -22,16 +23,17 @@ pub struct Watched<'r, T: Threads> {
 }
 
 impl<'r, T: Threads> Watched<'r, T> {
-    /// What watches a run on this machine, which is quiet or not, and has a log or none. A refused growth is the only error.
+    /// What watches a run on this machine, which is quiet or not, and has a log and metrics or none. A refused growth is the only error.
     pub fn new(
         rt: &'r HostRuntime,
         threads: &'r T,
         is_quiet: bool,
         log: Option<RunLog>,
+        metrics: Option<RunMetrics>,
     ) -> Result<Watched<'r, T>, AllocError> {
         let counts = Arc::new(rt.alloc(), Counts::new())?;
         let watcher = RunWatcher::new(rt, threads, Arc::try_clone(&counts)?);
-        let teller = Teller::new(rt, Arc::try_clone(&counts)?, is_quiet, log);
+        let teller = Teller::new(rt, Arc::try_clone(&counts)?, is_quiet, log, metrics);
         Ok(Watched {
             rt,
             threads,

@@ -5,18 +5,24 @@ use Rattle.std.specs.Option.{option_map_or}
 use Rattle.due_model.specs.declared.config.Config.{Config}
 use Rattle.due_model.specs.declared.config.Escalation.{Escalation}
 use Rattle.due_model.specs.declared.config.ObjectId.{ObjectId}
+use Rattle.due_model.specs.declared.notice.Kind.{Kind}
+use Rattle.due_model.specs.declared.notice.Kind.TheVariants as kind
 use Rattle.due_model.specs.declared.zone.Zone.{Zone}
 use Rattle.due_model.specs.ByObject.{places_of}
 use Rattle.due_model.specs.Due.{rights_for}
 use Rattle.due_model.specs.Escalations.{has_contact}
 use Rattle.due_model.specs.Objects.{object_named}
-use Rattle.due_model.specs.Rules.{is_problem}
 use Rattle.messages.specs.declared.entries.Entry.TheVariants.{Sent, Withheld}
 use Rattle.line_forms.specs.declared.report_line.ReportLine.{ReportLine}
 use Rattle.line_forms.specs.declared.report_line.ReportLine.TheVariants.{Decided, Refused}
-use Rattle.local_text.specs.Text.{local_text}
+use Rattle.line_forms.specs.Json.{number_json}
+use Rattle.local_text.specs.Text.{iso_text, local_text}
 use Rattle.notice_text.specs.Names.{filter_name}
 use Rattle.notice_text.specs.Texts.{contact_text, number_text}
+use Rattle.pretty_lines.specs.Columns.{paint}
+use Rattle.who_missed.specs.declared.forms.RowForm.{RowForm}
+use Rattle.who_missed.specs.declared.forms.RowForm.TheVariants.{Json, Plain, Pretty}
+use Rattle.who_missed.specs.Forms.{reason_json, row_end}
 
 -- ---- the lines of a report
 
@@ -47,12 +53,22 @@ abbrev pub stops : ReportLine → Bool
 stops (Decided (Withheld s)) = not (is_some s.contact)
 stops line = false
 
--- it is of a notice of a problem that passed the filters of the object, and its number is this one or a later one
-abbrev pub comes_to : (number : ℕ) → ReportLine → Bool
-comes_to number (Decided (Sent n)) = is_problem n.kind && nat_le number n.number
-comes_to number (Decided (Withheld s)) =
-    is_some s.contact && is_problem s.kind && nat_le number s.number
-comes_to number (Refused refused) = false
+-- A notice of this kind and number is matched with the escalations that begin with this one, or an earlier one: that of a problem
+-- by its own number, a recovery by the number before, that of the last notice.
+abbrev pub counts : Kind → (first number : ℕ) → Bool
+counts kind.Problem first number = nat_le first number
+counts kind.Recovery first number = nat_lt first number
+counts kind.FlappingStart first number = false
+counts kind.FlappingStop first number = false
+counts kind.DowntimeStart first number = false
+counts kind.DowntimeEnd first number = false
+counts kind.DowntimeCancelled first number = false
+
+-- it is of such a notice that passed the filters of the object
+abbrev pub comes_to : (first : ℕ) → ReportLine → Bool
+comes_to first (Decided (Sent n)) = counts n.kind first n.number
+comes_to first (Decided (Withheld s)) = is_some s.contact && counts s.kind first s.number
+comes_to first (Refused refused) = false
 
 -- ---- who is named
 
@@ -91,7 +107,7 @@ is_told o k until lines = list_any (λ line. is_within o until line && tells k l
 abbrev pub goes_out : (o until : ℕ) → List ReportLine → Bool
 goes_out o until lines = list_any (λ line. is_within o until line && not (stops line)) lines
 
--- a notice of this number, or a later one, did
+-- one that is matched with escalations from this number on did
 abbrev pub has_begun : (o until number : ℕ) → List ReportLine → Bool
 has_begun o until number lines =
     list_any (λ line. is_within o until line && comes_to number line) lines
@@ -179,32 +195,63 @@ why_text c o until lines k =
     (find (λ line. is_within o until line && refuses k line) lines)
     else codes "no notification command; "
 
--- what is written of a contact that is missing: who it is, why, and when it is told later on
-unfoldable pub missed_row : Config → Zone → (o until : ℕ) → List ReportLine → (k : ℕ) → List ℕ
-missed_row c zone o until lines k =
-    whom_text c k ++ why_text c o until lines k
-    ++ later_text zone (find (is_later o k until) lines) ++ 10 ∷ []
+-- how a row of text begins of a contact that is missing: its colour, and who it is
+unfoldable pub missed_front : (coloured : Bool) → Config → (k : ℕ) → List ℕ
+missed_front coloured c k = paint coloured (codes "33") ++ whom_text c k
 
-abbrev pub missed_line : Config → Zone → (o until : ℕ) → List ReportLine → (k : ℕ) → List ℕ
-missed_line c zone o until lines k =
-    if is_missed c o until lines k then missed_row c zone o until lines k else []
+-- such a row: who it is, why, and when it is told later on
+unfoldable pub missed_row : (coloured : Bool) → Config → Zone → (o until : ℕ) → List ReportLine
+    → (k : ℕ) → List ℕ
+missed_row coloured c zone o until lines k =
+    missed_front coloured c k ++ why_text c o until lines k
+    ++ later_text zone (find (is_later o k until) lines) ++ row_end coloured
+
+-- the first notice to it later on, as members of an object of JSON, and the end of that
+unfoldable pub told_json : Zone → (moment : ℕ) → List ℕ
+told_json zone moment =
+    codes ",\"moment\":" ++ decimal moment ++ codes ",\"local\":\"" ++ iso_text zone moment
+
+unfoldable pub number_end : (number : ℕ) → List ℕ
+number_end number = codes "\",\"number\":" ++ number_json number ++ codes "}\n"
+
+abbrev pub later_json : Zone → Option ReportLine → List ℕ
+later_json zone (Some (Decided (Sent n))) = told_json zone n.moment ++ number_end n.number
+later_json zone line = codes ",\"moment\":null,\"local\":null,\"number\":null}\n"
+
+-- the same as an object of JSON
+unfoldable pub missed_json : Config → Zone → (o until : ℕ) → List ReportLine → (k : ℕ) → List ℕ
+missed_json c zone o until lines k =
+    reason_json (contact_text c k) (why_text c o until lines k)
+    ++ later_json zone (find (is_later o k until) lines)
+
+-- in a form
+abbrev pub missed_form : RowForm → Config → Zone → (o until : ℕ) → List ReportLine → (k : ℕ) → List ℕ
+missed_form Plain c zone o until lines k = missed_row false c zone o until lines k
+missed_form (Pretty coloured) c zone o until lines k = missed_row coloured c zone o until lines k
+missed_form Json c zone o until lines k = missed_json c zone o until lines k
+
+abbrev pub missed_line : RowForm → Config → Zone → (o until : ℕ) → List ReportLine → (k : ℕ) → List ℕ
+missed_line form c zone o until lines k =
+    if is_missed c o until lines k then missed_form form c zone o until lines k else []
 
 -- of the first contacts, by their numbers
-abbrev pub first_lines : Config → Zone → (o until : ℕ) → List ReportLine → (count : ℕ) → List ℕ
-first_lines c zone o until lines count =
-    flat_map (missed_line c zone o until lines) (range_with_len 0 count)
+abbrev pub first_lines : RowForm → Config → Zone → (o until : ℕ) → List ReportLine → (count : ℕ)
+    → List ℕ
+first_lines form c zone o until lines count =
+    flat_map (missed_line form c zone o until lines) (range_with_len 0 count)
 
 -- of all of them: there are no more numbers
-unfoldable pub missed_lines : Config → Zone → (o until : ℕ) → List ReportLine → List ℕ
-missed_lines c zone o until lines = first_lines c zone o until lines 65536
+unfoldable pub missed_lines : RowForm → Config → Zone → (o until : ℕ) → List ReportLine → List ℕ
+missed_lines form c zone o until lines = first_lines form c zone o until lines 65536
 
 -- of the object of that number, if there is one
-abbrev pub missed_of : Config → Zone → (until : ℕ) → List ReportLine → Option ObjectId → List ℕ
-missed_of c zone until lines None = []
-missed_of c zone until lines (Some o) = missed_lines c zone o.0 until lines
+abbrev pub missed_of : RowForm → Config → Zone → (until : ℕ) → List ReportLine → Option ObjectId
+    → List ℕ
+missed_of form c zone until lines None = []
+missed_of form c zone until lines (Some o) = missed_lines form c zone o.0 until lines
 
 -- of the object of a name
-abbrev pub missed_text : Config → Zone → (host : List ℕ) → (service : Option (List ℕ)) → (until : ℕ)
-    → List ReportLine → List ℕ
-missed_text c zone host service until lines =
-    missed_of c zone until lines (object_named c.objects host service)
+abbrev pub missed_text : RowForm → Config → Zone → (host : List ℕ) → (service : Option (List ℕ))
+    → (until : ℕ) → List ReportLine → List ℕ
+missed_text form c zone host service until lines =
+    missed_of form c zone until lines (object_named c.objects host service)

@@ -1,8 +1,7 @@
 //! What a line of a report is of.
 
 ghost use Rattle.std.specs.Prelude.{◌≡◌};
-ghost use Rattle.due_model.specs.Rules.{is_problem};
-ghost use Rattle.who_missed.specs.Missed.{comes_to, is_later, is_within, refuses, stops, tells};
+ghost use Rattle.who_missed.specs.Missed.{comes_to, counts, is_later, is_within, refuses, stops, tells};
 
 use due_model::config::{ContactId, ObjectId};
 use due_model::notice::Kind;
@@ -69,24 +68,32 @@ pub(crate) fn stops(line: &ReportLine) -> bool
     }
 }
 
-/// Whether a notice of this kind is of a problem.
-fn is_problem(kind: Kind) -> bool
-    ensures { result ≡ is_problem kind }
+/// Whether a notice of this kind and number is matched with the escalations that begin with this one, or a later one: that of a
+/// problem by its own number, and a recovery by the one before.
+fn counts(kind: Kind, first: u64, number: u64) -> bool
+    ensures { result ≡ counts kind first number }
 {
-    matches!(kind, Kind::Problem)
+    match kind {
+        Kind::Problem => first <= number,
+        Kind::Recovery => first < number,
+        Kind::FlappingStart => false,
+        Kind::FlappingStop => false,
+        Kind::DowntimeStart => false,
+        Kind::DowntimeEnd => false,
+        Kind::DowntimeCancelled => false,
+    }
 }
 
-/// Whether it is of a notice of a problem that passed the filters of the object, with this number or a later one.
-pub(crate) fn comes_to(number: u32, line: &ReportLine) -> bool
-    ensures { result ≡ comes_to number line.now }
+/// Whether it is of a notice of a problem, or of a recovery, that passed the filters of the object and is matched with escalations
+/// from this number on.
+pub(crate) fn comes_to(first: u32, line: &ReportLine) -> bool
+    ensures { result ≡ comes_to first line.now }
 {
-    let number = u64::from(number);
+    let first = u64::from(first);
     match line {
-        ReportLine::Decided(Entry::Sent(notice)) => {
-            is_problem(notice.kind) && number <= notice.number
-        }
+        ReportLine::Decided(Entry::Sent(notice)) => counts(notice.kind, first, notice.number),
         ReportLine::Decided(Entry::Withheld(withheld)) => {
-            withheld.contact.is_some() && is_problem(withheld.kind) && number <= withheld.number
+            withheld.contact.is_some() && counts(withheld.kind, first, withheld.number)
         }
         ReportLine::Refused(_) => false,
     }

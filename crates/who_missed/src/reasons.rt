@@ -76,7 +76,7 @@ fn goes_out(object: ObjectId, until: u64, lines: &[ReportLine]) -> bool
         .any(|line| is_within(object, until, line) && !stops(line))
 }
 
-/// Whether a notice of this number, or a later one, did.
+/// Whether one that is matched with escalations from this number on did.
 fn has_begun(object: ObjectId, until: u64, number: u32, lines: &[ReportLine]) -> bool
     ensures { result ≡ has_begun object.0 until number lines.now }
 {
@@ -84,7 +84,7 @@ fn has_begun(object: ObjectId, until: u64, number: u32, lines: &[ReportLine]) ->
 }
 
 /// Adds a number in decimal digits.
-fn push_decimal(text: &mut Vec<u8>, number: u64) -> Result<(), AllocError>
+pub(crate) fn push_decimal(text: &mut Vec<u8>, number: u64) -> Result<(), AllocError>
     ensures { OnOk result (text.new.items ≡ text.old.items ++ decimal number) }
 {
     let mut buffer = Buffer::new();

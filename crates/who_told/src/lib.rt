@@ -27,6 +27,7 @@ use report_telling::tell_feed;
 use rows::Rows;
 use std::alloc::Global;
 use text_lines::Input;
+use who_missed::{Form, RowForm};
 
 /// How many minutes the feed has by which it is seen when those are told who aren't: a week's.
 const WEEK: u32 = 10_080;
@@ -35,29 +36,30 @@ const WEEK: u32 = 10_080;
 /// report of the feed that is made of it, in the report's order, or that nobody is told. A line of that feed that is refused
 /// stands among them as in the report: all names are known, so it is one past the last moment. Then comes a line for each
 /// contact that the configuration names for the object and that isn't told: why not, and when it is, if that is within a
-/// week. Where the object text is refused, or a name or the state isn't known, nothing is written; where the output fails or
+/// week. As JSON each is an object. Where the object text is refused, or a name or the state isn't known, nothing is written; where the output fails or
 /// memory runs out, a front of that was.
 pub fn who<'a, O: Input + Drop, W: Sink>(
     alloc: Global,
     zone: &Zone,
     objects: O,
     supposed: &Supposed<'a>,
+    form: RowForm,
     writer: &mut W,
 ) -> Result<Ending, WhoFault<'a>>
     requires { supposed.now.moment < 2 ^ 40 }
     // All names are known. What is written is the table of that report, and who is missing in it, and nothing else.
     ensures table { IfSome (O.remaining objects) (λ text. IfOk result (λ ending.
-        TellsWho supposed.now text zone.now ending (W.contents writer.old) (W.contents writer.new))) }
+        TellsWho form supposed.now text zone.now ending (W.contents writer.old) (W.contents writer.new))) }
     // A fault says what was wrong, and what was written.
     ensures fault { IfSome (O.remaining objects) (λ text. IfErr result (λ fault.
-        FailsOf supposed.now O.can_fail text zone.now fault
+        FailsOf form supposed.now O.can_fail text zone.now fault
         (W.contents writer.old) (W.contents writer.new))) }
     // The output failed only where a call of the writer did.
     ensures sure { W.can_fail ≡ false
         → ¬ IsErrOf result (WhoFault.Command CommandFault.Output) }
 {
     let config = read_object_file(alloc, objects)?;
-    tell_known(alloc, &config, zone, supposed, writer)
+    tell_known(alloc, &config, zone, supposed, form, writer)
 }
 
 /// The same for a configuration.
@@ -67,18 +69,19 @@ fn tell_known<'a, W: Sink>(
     config: &Config,
     zone: &Zone,
     supposed: &Supposed<'a>,
+    form: RowForm,
     writer: &mut W,
 ) -> Result<Ending, WhoFault<'a>>
     requires accepted { IsAccepted config.now }
     requires moment { supposed.now.moment < 2 ^ 40 }
-    ensures ok { IfOk result (λ ending. TellsKnown supposed.now config.now zone.now ending
+    ensures ok { IfOk result (λ ending. TellsKnown form supposed.now config.now zone.now ending
         (W.contents writer.old) (W.contents writer.new)) }
-    ensures fault { IfErr result (λ fault. FailsFor W.can_fail supposed.now config.now zone.now fault
+    ensures fault { IfErr result (λ fault. FailsFor form W.can_fail supposed.now config.now zone.now fault
         (W.contents writer.old) (W.contents writer.new)) }
 {
     match unknown_in(config, supposed) {
         Some(unknown) => Err(WhoFault::Unknown(unknown)),
-        None => match tell_both(alloc, config, zone, supposed, writer) {
+        None => match tell_both(alloc, config, zone, supposed, form, writer) {
             Ok(ending) => Ok(ending),
             Err(fault) => Err(WhoFault::Command(fault)),
         },
@@ -91,18 +94,19 @@ fn tell_both<W: Sink>(
     config: &Config,
     zone: &Zone,
     supposed: &Supposed<'_>,
+    form: RowForm,
     writer: &mut W,
 ) -> Result<Ending, CommandFault>
     requires accepted { IsAccepted config.now }
     requires moment { supposed.now.moment < 2 ^ 40 }
-    ensures ok { IfOk result (λ ending. TellsBoth supposed.now config.now zone.now ending
+    ensures ok { IfOk result (λ ending. TellsBoth form supposed.now config.now zone.now ending
         (W.contents writer.old) (W.contents writer.new)) }
-    ensures front { TellsBothFront supposed.now config.now zone.now
+    ensures front { TellsBothFront form supposed.now config.now zone.now
         (W.contents writer.old) (W.contents writer.new) }
     ensures fault { IfErr result (λ fault. IsWriteFault W.can_fail fault) }
 {
-    let ending = tell_table(alloc, config, zone, supposed, writer)?;
-    tell_missing(alloc, config, zone, supposed, writer)?;
+    let ending = tell_table(alloc, config, zone, supposed, form, writer)?;
+    tell_missing(alloc, config, zone, supposed, form, writer)?;
     Ok(ending)
 }
 
@@ -112,27 +116,21 @@ fn tell_table<W: Sink>(
     config: &Config,
     zone: &Zone,
     supposed: &Supposed<'_>,
+    form: RowForm,
     writer: &mut W,
 ) -> Result<Ending, CommandFault>
     requires accepted { IsAccepted config.now }
     requires moment { supposed.now.moment < 2 ^ 40 }
-    ensures ok { IfOk result (λ ending. TellsTable supposed.now config.now zone.now ending
+    ensures ok { IfOk result (λ ending. TellsTable form supposed.now config.now zone.now ending
         (W.contents writer.old) (W.contents writer.new)) }
-    ensures front { TellsTableFront supposed.now config.now zone.now
+    ensures front { TellsTableFront form supposed.now config.now zone.now
         (W.contents writer.old) (W.contents writer.new) }
     ensures fault { IfErr result (λ fault. IsWriteFault W.can_fail fault) }
 {
     let feed = make_feed(alloc, supposed)?;
     let feed = feed.as_slice();
-    tell_feed(
-        alloc,
-        config,
-        zone,
-        feed,
-        Rows::new(),
-        writer,
-        &mut Unwatched,
-    )
+    let rows = Rows::new(alloc, config, form)?;
+    tell_feed(alloc, config, zone, feed, rows, writer, &mut Unwatched)
 }
 
 /// Writes who is missing.
@@ -141,13 +139,14 @@ fn tell_missing<W: Sink>(
     config: &Config,
     zone: &Zone,
     supposed: &Supposed<'_>,
+    form: RowForm,
     writer: &mut W,
 ) -> Result<Ending, CommandFault>
     requires accepted { IsAccepted config.now }
     requires moment { supposed.now.moment < 2 ^ 40 }
-    ensures ok { IfOk result (λ _. TellsMissing supposed.now config.now zone.now
+    ensures ok { IfOk result (λ _. TellsMissing form supposed.now config.now zone.now
         (W.contents writer.old) (W.contents writer.new)) }
-    ensures front { TellsMissingFront supposed.now config.now zone.now
+    ensures front { TellsMissingFront form supposed.now config.now zone.now
         (W.contents writer.old) (W.contents writer.new) }
     ensures fault { IfErr result (λ fault. IsWriteFault W.can_fail fault) }
 {
@@ -158,6 +157,7 @@ fn tell_missing<W: Sink>(
     let feed = make_feed(alloc, &week)?;
     let feed = feed.as_slice();
     let until = supposed.moment + 60 * u64::from(supposed.minutes);
-    let missed = Missed::new(alloc, supposed.host, supposed.service, until);
+    let made = Form { alloc, form };
+    let missed = Missed::new(made, supposed.host, supposed.service, until);
     tell_feed(alloc, config, zone, feed, missed, writer, &mut Unwatched)
 }

@@ -7,7 +7,7 @@ use line_forms::ReportLine;
 use report_telling::Teller;
 use std::alloc::{AllocError, Global};
 use std::marker::Model;
-use who_missed::push_missed;
+use who_missed::{Form, push_missed};
 use zone_times::clock::ZoneClock;
 
 /// Lines of a report, in order. Contracts see them as a list.
@@ -60,27 +60,26 @@ pub struct Missed<'a> {
     pub service: Option<&'a str>,
     /// Up to this moment notices count, in seconds since the epoch.
     pub until: u64,
+    /// How the lines are written.
+    form: Form,
     lines: Lines,
 }
 
 impl<'a> Missed<'a> {
     /// One that was told no line yet.
-    pub(crate) fn new(
-        alloc: Global,
-        host: &'a str,
-        service: Option<&'a str>,
-        until: u64,
-    ) -> Missed<'a>
+    pub(crate) fn new(form: Form, host: &'a str, service: Option<&'a str>, until: u64) -> Missed<'a>
         ensures host { result.host.now ≡ host.now }
         ensures service { result.service ≡ service.entry }
         ensures until { result.until ≡ until }
+        ensures form { result.form.form ≡ form.form }
         ensures lines { result.lines ≡ [] }
     {
         Missed {
             host,
             service,
             until,
-            lines: Lines::new(alloc),
+            form,
+            lines: Lines::new(form.alloc),
         }
     }
 }
@@ -94,8 +93,8 @@ impl Teller for Missed<'_> {
 
     ghost after = { λ missed _ _ line. record missed { lines = missed.lines ++ line ∷ [] } };
 
-    ghost ended = { λ missed config zone. missed_text config zone missed.host.now
-        (option_copied missed.service) missed.until missed.lines };
+    ghost ended = { λ missed config zone. missed_text missed.form.form config zone
+        missed.host.now (option_copied missed.service) missed.until missed.lines };
 
     fn tell(
         &mut self,
@@ -114,6 +113,7 @@ impl Teller for Missed<'_> {
         text: &mut Vec<u8>,
     ) -> Result<(), AllocError> {
         push_missed(
+            self.form,
             text,
             config,
             clock,

@@ -9,7 +9,13 @@ part t u x y h e = h ∙ ap (λ (s : List ℕ). t ++ s) e
 more_text : (t0 x t u b : List ℕ) → t ≡ t0 ++ x → u ≡ t ++ b → u ≡ t0 ++ (x ++ b)
 more_text t0 x t u b h k = k ∙ ap (λ (s : List ℕ). s ++ b) h ∙ append_assoc t0 x b
 
--- five parts, one after another
+-- four parts, one after another
+pub four_parts : (t0 t1 t2 t3 t4 a b c d : List ℕ) → t1 ≡ t0 ++ a → t2 ≡ t1 ++ b → t3 ≡ t2 ++ c → t4 ≡ t3 ++ d
+    → t4 ≡ t0 ++ (((a ++ b) ++ c) ++ d)
+four_parts t0 t1 t2 t3 t4 a b c d h1 h2 h3 h4 =
+    more_text t0 ((a ++ b) ++ c) t3 t4 d (more_text t0 (a ++ b) t2 t3 c (more_text t0 a t1 t2 b h1 h2) h3) h4
+
+-- five
 pub five_parts : (t0 t1 t2 t3 t4 t5 a b c d e : List ℕ) → t1 ≡ t0 ++ a → t2 ≡ t1 ++ b → t3 ≡ t2 ++ c → t4 ≡ t3 ++ d → t5 ≡ t4 ++ e
     → t5 ≡ t0 ++ ((((a ++ b) ++ c) ++ d) ++ e)
 five_parts t0 t1 t2 t3 t4 t5 a b c d e h1 h2 h3 h4 h5 =

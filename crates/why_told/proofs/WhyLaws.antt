@@ -1,6 +1,5 @@
 -- From what is told of a report to what is written of an object's attempts.
-use Rattle.std.proofs.Common.{◌≡◌, ℕ, Bool, true, false, cond, List, [], ◌∷◌, ◌++◌, filter, Option, None, Some, IfSome, refl, sym, ap, subst, ◌∙◌, append_assoc}
-use Rattle.std.specs.Option.{option_copied}
+use Rattle.std.proofs.Common.{◌≡◌, ℕ, Bool, true, false, cond, not, ◌&&◌, List, [], ◌∷◌, ◌++◌, filter, Option, None, Some, IfSome, refl, sym, ap, subst, ◌∙◌, append_assoc}
 use Rattle.due_model.specs.declared.config.Config.{Config}
 use Rattle.due_model.specs.declared.zone.Zone.{Zone}
 use Rattle.event_feed.specs.Feed.{Answer}
@@ -14,8 +13,8 @@ use Rattle.why_told.specs.declared.attempts.Open.{Open}
 use Rattle.why_told.specs.declared.teller.Asked.{Asked}
 use Rattle.why_told.specs.declared.teller.Reasons.{Reasons}
 use Rattle.why_told.specs.Attempts.{after_line, nothing_open}
-use Rattle.why_told.specs.Report.{TellsWhy, TellsWhyFront, why_from, why_report}
-use Rattle.why_told.specs.Teller.{after_told, ended_text, is_of, told_line}
+use Rattle.why_told.specs.Report.{TellsWhy, TellsWhyFront, is_earlier, last_of, why_from, why_lines, why_report}
+use Rattle.why_told.specs.Teller.{after_told, ended_text, is_early, is_of, told_line}
 use Rattle.why_told.specs.Why.{line_text}
 
 -- the form of the teller
@@ -24,39 +23,47 @@ form_at c zone =
     form_of (λ reasons config z line. told_line reasons config z line) (λ reasons config z line. after_told reasons config line)
     (λ reasons config z. ended_text reasons config z) c zone
 
--- the teller after a line that is asked for
+-- the teller after a line that is asked for, and after one of the object before the span
 abbrev taken : Reasons → ReportLine → Reasons
 taken reasons line = record reasons { current = after_line reasons.current line }
+
+abbrev noted : Reasons → ReportLine → Reasons
+noted reasons line = record reasons { before = Some line }
 
 -- what it writes from here on
 abbrev from_here : Reasons → Config → Zone → List ReportLine → List ℕ
 from_here reasons c zone lines =
-    why_from c zone (option_copied reasons.asked.contact) reasons.current (filter (is_of reasons.asked c) lines)
+    why_from reasons.asked c zone (last_of reasons.before (filter (is_earlier reasons.asked c) lines)) reasons.current (filter (is_of reasons.asked c) lines)
 
 -- one line, and those after it
 one_more : (reasons : Reasons) (c : Config) (zone : Zone) (line : ReportLine) (lines : List ReportLine)
     → told_report (form_at c zone) (taken reasons line) lines ≡ from_here (taken reasons line) c zone lines
+    → told_report (form_at c zone) (noted reasons line) lines ≡ from_here (noted reasons line) c zone lines
     → told_report (form_at c zone) reasons lines ≡ from_here reasons c zone lines
-    → (b : Bool)
-    → cond b (line_text c zone (option_copied reasons.asked.contact) reasons.current line) [] ++ told_report (form_at c zone) (cond b (taken reasons line) reasons) lines
-    ≡ why_from c zone (option_copied reasons.asked.contact) reasons.current (cond b (line ∷ filter (is_of reasons.asked c) lines) (filter (is_of reasons.asked c) lines))
-one_more reasons c zone line lines on same true =
-    ap (λ (text : List ℕ). line_text c zone (option_copied reasons.asked.contact) reasons.current line ++ text) on
-one_more reasons c zone line lines on same false = same
+    → (b d : Bool)
+    → cond b (line_text reasons.asked c zone reasons.current line) [] ++ told_report (form_at c zone) (cond b (taken reasons line) (cond d (noted reasons line) reasons)) lines
+    ≡ why_from reasons.asked c zone
+    (last_of reasons.before (cond (not b && d) (line ∷ filter (is_earlier reasons.asked c) lines) (filter (is_earlier reasons.asked c) lines)))
+    reasons.current (cond b (line ∷ filter (is_of reasons.asked c) lines) (filter (is_of reasons.asked c) lines))
+one_more reasons c zone line lines on early same true d = ap (λ (text : List ℕ). line_text reasons.asked c zone reasons.current line ++ text) on
+one_more reasons c zone line lines on early same false true = early
+one_more reasons c zone line lines on early same false false = same
 
 told_from : (reasons : Reasons) (c : Config) (zone : Zone) (lines : List ReportLine) → told_report (form_at c zone) reasons lines ≡ from_here reasons c zone lines
 told_from reasons c zone [] = refl
 told_from reasons c zone (line ∷ lines) =
     append_assoc (told_line reasons c zone line) (told_all (form_at c zone) (after_told reasons c line) lines) ((form_at c zone).ended (after_all (form_at c zone) (after_told reasons c line) lines))
-    ∙ one_more reasons c zone line lines (told_from (taken reasons line) c zone lines) (told_from reasons c zone lines) (is_of reasons.asked c line)
+    ∙ one_more reasons c zone line lines (told_from (taken reasons line) c zone lines) (told_from (noted reasons line) c zone lines) (told_from reasons c zone lines)
+    (is_of reasons.asked c line) (is_early reasons.asked c line)
 
-module _ (reasons : Reasons) (asked : Asked) (p : reasons.asked ≡ asked) (q : reasons.current ≡ nothing_open) where
+module _ (reasons : Reasons) (asked : Asked) (p : reasons.asked ≡ asked) (r : reasons.before ≡ None) (q : reasons.current ≡ nothing_open) where
   report_told : (c : Config) (zone : Zone) (given : List Answer) → told_report (form_at c zone) reasons (report_lines c zone given) ≡ why_report asked c zone given
   report_told c zone given =
       let lines = report_lines c zone given in
       told_from reasons c zone lines
-      ∙ ap (λ (x : Open). why_from c zone (option_copied reasons.asked.contact) x (filter (is_of reasons.asked c) lines)) q
-      ∙ ap (λ (x : Asked). why_from c zone (option_copied x.contact) nothing_open (filter (is_of x c) lines)) p
+      ∙ ap (λ (x : Open). why_from reasons.asked c zone (last_of reasons.before (filter (is_earlier reasons.asked c) lines)) x (filter (is_of reasons.asked c) lines)) q
+      ∙ ap (λ (x : Option ReportLine). why_from reasons.asked c zone (last_of x (filter (is_earlier reasons.asked c) lines)) nothing_open (filter (is_of reasons.asked c) lines)) r
+      ∙ ap (λ (x : Asked). why_lines x c zone lines) p
 
   -- what is told is what is written of the attempts
   pub is_why : (can_fail : Bool) (config : Config) (feed : List ℕ) (zone : Zone) (ending : Ending) (old new : Option (List ℕ))

@@ -1,5 +1,7 @@
-pub mod Values
 pub mod Attempts
+pub mod Rows
+pub mod Missing
+pub mod Nothing
 pub mod Why
 pub mod Teller
 pub mod Report

@@ -1,6 +1,5 @@
 -- What the teller of `why` writes of a line, and what it is after it.
-use Rattle.std.specs.Prelude.{ℕ, Bool, false, ◌&&◌, nat_le, List, [], Option, None, Some, if◌then◌else◌}
-use Rattle.std.specs.Option.{option_copied}
+use Rattle.std.specs.Prelude.{ℕ, Bool, false, not, ◌&&◌, nat_le, nat_lt, List, [], Option, None, Some, if◌then◌else◌}
 use Rattle.due_model.specs.declared.config.Config.{Config}
 use Rattle.due_model.specs.declared.zone.Zone.{Zone}
 use Rattle.messages.specs.declared.entries.Entry.TheVariants.{Sent, Withheld}
@@ -11,13 +10,19 @@ use Rattle.line_forms.specs.Picks.{is_picked}
 use Rattle.why_told.specs.declared.teller.Asked.{Asked}
 use Rattle.why_told.specs.declared.teller.Reasons.{Reasons}
 use Rattle.why_told.specs.Attempts.{after_line}
-use Rattle.why_told.specs.Why.{close_text, line_text}
+use Rattle.why_told.specs.Why.{ending_text, line_text}
 
 -- it is of a moment from one up to another
 abbrev pub is_between : (from to : ℕ) → ReportLine → Bool
 is_between from to (Decided (Sent n)) = nat_le from n.moment && nat_le n.moment to
 is_between from to (Decided (Withheld s)) = nat_le from s.moment && nat_le s.moment to
 is_between from to (Refused refused) = false
+
+-- it is of an earlier moment
+abbrev pub is_before : (from : ℕ) → ReportLine → Bool
+is_before from (Decided (Sent n)) = nat_lt n.moment from
+is_before from (Decided (Withheld s)) = nat_lt s.moment from
+is_before from (Refused refused) = false
 
 -- the lines of the object
 abbrev pub picks_of : Asked → Picks
@@ -27,17 +32,25 @@ picks_of asked = record { only = None; object = Some asked.object; contact = Non
 abbrev pub is_of : Asked → Config → ReportLine → Bool
 is_of asked c line = is_between asked.from asked.to line && is_picked (picks_of asked) c line
 
--- nothing of a line that isn't
+-- it is of that object, before that span
+abbrev pub is_early : Asked → Config → ReportLine → Bool
+is_early asked c line = is_before asked.from line && is_picked (picks_of asked) c line
+
+-- nothing of a line that isn't of what is asked
 abbrev pub told_line : Reasons → Config → Zone → ReportLine → List ℕ
 told_line reasons c zone line =
-    if is_of reasons.asked c line
-    then line_text c zone (option_copied reasons.asked.contact) reasons.current line else []
+    if is_of reasons.asked c line then line_text reasons.asked c zone reasons.current line else []
+
+-- after a line that isn't
+abbrev pub after_other : Reasons → Config → ReportLine → Reasons
+after_other reasons c line =
+    if is_early reasons.asked c line then record reasons { before = Some line } else reasons
 
 abbrev pub after_told : Reasons → Config → ReportLine → Reasons
 after_told reasons c line =
     if is_of reasons.asked c line
-    then record reasons { current = after_line reasons.current line } else reasons
+    then record reasons { current = after_line reasons.current line }
+    else after_other reasons c line
 
 abbrev pub ended_text : Reasons → Config → Zone → List ℕ
-ended_text reasons c zone =
-    close_text c zone (option_copied reasons.asked.contact) reasons.current
+ended_text reasons c zone = ending_text reasons.asked c zone reasons.before reasons.current

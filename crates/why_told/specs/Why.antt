@@ -1,156 +1,126 @@
 -- What is written of an object's attempts: of each its filters, and whom it goes to.
-use Rattle.std.specs.Prelude.{◌≡◌, ℕ, Bool, true, not, ◌&&◌, ◌||◌, ◌==◌, nat_le, nat_lt, List, [], ◌∷◌, ◌++◌, codes, decimal, flat_map, length, slice_get, Option, None, Some, if◌then◌else◌}
-use Rattle.std.specs.List.{list_any, range_with_len}
-use Rattle.std.specs.Option.{option_map_or}
-use Rattle.std.specs.Str.{bytes_eq}
-use Rattle.due_model.specs.Limits.{last_moment}
+use Rattle.std.specs.Prelude.{ℕ, Bool, ◌||◌, ◌==◌, nat_lt, List, [], ◌++◌, is_some, length, slice_get, Option, None, Some, if◌then◌else◌}
 use Rattle.due_model.specs.declared.config.Config.{Config}
 use Rattle.due_model.specs.declared.config.ContactId.{ContactId}
-use Rattle.due_model.specs.declared.notice.Filter.{Filter}
-use Rattle.due_model.specs.declared.notice.Kind.{Kind}
 use Rattle.due_model.specs.declared.notice.Notice.{Notice}
 use Rattle.due_model.specs.declared.notice.Suppression.{Suppression}
-use Rattle.due_model.specs.declared.state.State.{State}
 use Rattle.due_model.specs.declared.zone.Zone.{Zone}
 use Rattle.messages.specs.declared.entries.Entry.TheVariants.{Sent, Withheld}
-use Rattle.notice_text.specs.Names.{kind_name, state_name}
-use Rattle.notice_text.specs.Texts.{contact_text, lane_text}
 use Rattle.line_forms.specs.declared.report_line.ReportLine.{ReportLine}
 use Rattle.line_forms.specs.declared.report_line.ReportLine.TheVariants.{Decided, Refused}
-use Rattle.line_forms.specs.Picks.{line_object}
-use Rattle.local_text.specs.Text.{local_text}
-use Rattle.who_missed.specs.Missed.{escalations_text, has_command, is_named, refuses, tells}
+use Rattle.line_forms.specs.Json.{json_text}
+use Rattle.who_missed.specs.declared.forms.RowForm.{RowForm}
+use Rattle.who_missed.specs.Forms.{is_coloured, is_json}
 use Rattle.why_told.specs.declared.attempts.Open.{Open}
+use Rattle.why_told.specs.declared.teller.Asked.{Asked}
+use Rattle.why_told.specs.declared.text.Attempt.{Attempt}
 use Rattle.why_told.specs.Attempts.{goes_on, has_event}
-use Rattle.why_told.specs.Values.{contact_filter_text, filter_text, passed_text, place_of}
-
--- ---- an attempt
-
--- the number of a notice, where it has one
-abbrev pub notice_number : ℕ → List ℕ
-notice_number number = if number == 0 then [] else codes ", notice " ++ decimal number
-
--- when it is, and of what
-unfoldable pub head_text : Zone → (moment : ℕ) → Kind → State → (number : ℕ) → List ℕ
-head_text zone moment kind state number =
-    local_text zone moment ++ codes "  " ++ kind_name kind ++ codes " " ++ state_name state
-    ++ notice_number number ++ codes "\n"
-
--- Of a contact something is written where it is the one that is asked for, or none is.
-abbrev pub is_asked : Config → (asked : Option (List ℕ)) → (k : ℕ) → Bool
-is_asked c None k = true
-is_asked c (Some name) k = bytes_eq (contact_text c k) name
-
--- whom a notice goes to, and by which command
-unfoldable pub told_row : Config → Notice → List ℕ
-told_row c n =
-    codes "    told         " ++ contact_text c n.contact.0 ++ codes "  "
-    ++ lane_text c n.lane.0 ++ codes "\n"
-
-abbrev pub told_text : Config → Option (List ℕ) → Notice → List ℕ
-told_text c asked n = if is_asked c asked n.contact.0 then told_row c n else []
-
--- by which filter a contact is refused, and the value that this goes by
-unfoldable pub refused_row : Config → Suppression → (k : ℕ) → List ℕ
-refused_row c s k =
-    codes "    refused      " ++ contact_text c k ++ codes "  "
-    ++ contact_filter_text c s.object.0 k s.filter ++ codes "\n"
-
-abbrev pub refused_text : Config → Option (List ℕ) → Suppression → (k : ℕ) → List ℕ
-refused_text c asked s k = if is_asked c asked k then refused_row c s k else []
-
--- by which filter the object is stopped, and the value that this goes by
-unfoldable pub stopped_row : Config → Suppression → List ℕ
-stopped_row c s =
-    codes "    stopped      " ++ filter_text c s.object.0 s.filter ++ codes "\n"
+use Rattle.why_told.specs.Missing.{missing_of}
+use Rattle.why_told.specs.Nothing.{nothing_text}
+use Rattle.why_told.specs.Rows.{head_text, more_row, refused_of, stopped_text, told_of}
+use Rattle.filter_values.specs.Tried.{tried_json}
+use Rattle.filter_values.specs.Values.{passed_text, place_of}
 
 -- ---- how what is open ends
 
--- how a row of what a filter stopped went on after its first, if it did
-unfoldable pub more_row : Zone → (moment more : ℕ) → List ℕ
-more_row zone moment more =
-    codes "    and again    " ++ decimal more ++ codes " times, up to " ++ local_text zone moment
-    ++ codes "\n"
+-- How a row of what a filter stopped went on after its first, if it did. As JSON each is written by itself.
+abbrev pub rest_of : RowForm → Zone → (more : ℕ) → Option Suppression → List ℕ
+rest_of form zone more None = []
+rest_of form zone more (Some s) =
+    if more == 0 || is_json form then [] else more_row zone s.moment more
 
-abbrev pub rest_of : Zone → (more : ℕ) → Option Suppression → List ℕ
-rest_of zone more None = []
-rest_of zone more (Some s) = if more == 0 then [] else more_row zone s.moment more
+unfoldable pub close_text : Asked → Config → Zone → Open → List ℕ
+close_text asked c zone current =
+    rest_of asked.form zone current.more current.stopped
+    ++ missing_of asked c current.met (slice_get current.met 0)
 
--- the lines of an attempt tell of a contact
-abbrev pub is_met : List ReportLine → (k : ℕ) → Bool
-is_met lines k = list_any (λ line. tells k line || refuses k line) lines
+-- something is open: it is once there was an attempt
+abbrev pub is_open : Open → Bool
+is_open current = is_some current.stopped || nat_lt 0 (length current.met)
 
--- why a contact is no receiver of the attempt of these lines: by the escalations of the object
-abbrev pub no_receiver_text : Config → (o k : ℕ) → List ReportLine → List ℕ
-no_receiver_text c o k lines =
-    if has_command c o k then escalations_text c o k last_moment lines
-    else codes "no notification command; "
+-- how all of it ends, given the last line of the object before the span
+abbrev pub ending_text : Asked → Config → Zone → Option ReportLine → Open → List ℕ
+ending_text asked c zone before current =
+    if is_open current then close_text asked c zone current else nothing_text asked zone before
 
-unfoldable pub missing_row : Config → (o k : ℕ) → List ReportLine → List ℕ
-missing_row c o k lines =
-    codes "    no receiver  " ++ contact_text c k ++ codes "  " ++ no_receiver_text c o k lines
-    ++ codes "not told\n"
+-- ---- what a filter of the object stops
 
--- The configuration names the contact for the object, it is asked for, and the attempt doesn't tell of it.
-abbrev pub is_missing : Config → Option (List ℕ) → (o : ℕ) → List ReportLine → (k : ℕ) → Bool
-is_missing c asked o lines k =
-    is_named c o k && is_asked c asked k && not (is_met lines k)
+-- its filters, and the one that stopped it
+unfoldable pub stop_rows : (coloured : Bool) → Config → Zone → Suppression → List ℕ
+stop_rows coloured c zone s =
+    head_text zone s.moment s.kind s.state 0 ++ passed_text c s.object.0 (place_of s.filter)
+    ++ stopped_text coloured c s
 
-abbrev pub missing_at : Config → Option (List ℕ) → (o : ℕ) → List ReportLine → (k : ℕ) → List ℕ
-missing_at c asked o lines k =
-    if is_missing c asked o lines k then missing_row c o k lines else []
+-- as JSON: its filters, and the line of the report
+unfoldable pub stop_json : Config → Zone → Suppression → List ℕ
+stop_json c zone s =
+    tried_json c s.event s.object.0 (place_of s.filter) (Some s.filter)
+    ++ json_text c zone (Decided (Withheld s))
 
--- who is no receiver of the attempt of these lines, by their numbers
-unfoldable pub missing_text : Config → Option (List ℕ) → (o : ℕ) → List ReportLine → List ℕ
-missing_text c asked o lines =
-    flat_map (missing_at c asked o lines) (range_with_len 0 65536)
+abbrev pub new_stop_text : RowForm → Config → Zone → Suppression → List ℕ
+new_stop_text form c zone s =
+    if is_json form then stop_json c zone s else stop_rows (is_coloured form) c zone s
 
--- the same, of the object of a line
-abbrev pub missing_of : Config → Option (List ℕ) → List ReportLine → Option ReportLine → List ℕ
-missing_of c asked lines None = []
-missing_of c asked lines (Some line) =
-    option_map_or (λ o. missing_text c asked o.0 lines) (line_object line) []
+-- one that goes on with the row that is open: its number alone is written of it, when the row ends
+abbrev pub again_text : RowForm → Config → Zone → Suppression → List ℕ
+again_text form c zone s = if is_json form then stop_json c zone s else []
 
--- how what is open ends
-unfoldable pub close_text : Config → Zone → Option (List ℕ) → Open → List ℕ
-close_text c zone asked current =
-    rest_of zone current.more current.stopped
-    ++ missing_of c asked current.met (slice_get current.met 0)
+abbrev pub stop_text : Asked → Config → Zone → Open → Suppression → List ℕ
+stop_text asked c zone current s =
+    if goes_on current s then again_text asked.form c zone s
+    else close_text asked c zone current ++ new_stop_text asked.form c zone s
+
+-- ---- an attempt that goes out
+
+-- what a line of it says of it
+abbrev pub sent_attempt : Notice → Attempt
+sent_attempt n = record {
+  event = n.event;
+  object = n.object;
+  moment = n.moment;
+  kind = n.kind;
+  state = n.state;
+  number = n.number;
+}
+
+abbrev pub withheld_attempt : Suppression → Attempt
+withheld_attempt s = record {
+  event = s.event;
+  object = s.object;
+  moment = s.moment;
+  kind = s.kind;
+  state = s.state;
+  number = s.number;
+}
+
+-- all filters of the object passed
+unfoldable pub out_rows : Config → Zone → Attempt → List ℕ
+out_rows c zone a =
+    head_text zone a.moment a.kind a.state a.number ++ passed_text c a.object.0 11
+
+abbrev pub out_text : RowForm → Config → Zone → Attempt → List ℕ
+out_text form c zone a =
+    if is_json form then tried_json c a.event a.object.0 11 None else out_rows c zone a
+
+-- how it begins, where it isn't open
+abbrev pub begin_text : Asked → Config → Zone → Open → Attempt → List ℕ
+begin_text asked c zone current a =
+    if has_event current a.event then []
+    else close_text asked c zone current ++ out_text asked.form c zone a
 
 -- ---- what a line adds
 
--- what a filter of the object stops: nothing where it goes on with the row that is open
-unfoldable pub new_stop_text : Config → Zone → Suppression → List ℕ
-new_stop_text c zone s =
-    head_text zone s.moment s.kind s.state 0 ++ passed_text c s.object.0 (place_of s.filter)
-    ++ stopped_row c s
+abbrev pub withheld_text : Asked → Config → Zone → Open → Suppression → Option ContactId → List ℕ
+withheld_text asked c zone current s None = stop_text asked c zone current s
+withheld_text asked c zone current s (Some contact) =
+    begin_text asked c zone current (withheld_attempt s) ++ refused_of asked c zone s contact.0
 
-abbrev pub stop_text : Config → Zone → Option (List ℕ) → Open → Suppression → List ℕ
-stop_text c zone asked current s =
-    if goes_on current s then [] else close_text c zone asked current ++ new_stop_text c zone s
+abbrev pub sent_text : Asked → Config → Zone → Open → Notice → List ℕ
+sent_text asked c zone current n =
+    begin_text asked c zone current (sent_attempt n) ++ told_of asked c zone n
 
--- how an attempt that goes out begins, where it isn't open: all filters of the object passed
-unfoldable pub out_text : Config → Zone → (o moment : ℕ) → Kind → State → (number : ℕ) → List ℕ
-out_text c zone o moment kind state number =
-    head_text zone moment kind state number ++ passed_text c o 11
-
-abbrev pub begin_text : Config → Zone → Option (List ℕ) → Open → (event o moment : ℕ) → Kind
-    → State → (number : ℕ) → List ℕ
-begin_text c zone asked current event o moment kind state number =
-    if has_event current event then []
-    else close_text c zone asked current ++ out_text c zone o moment kind state number
-
-abbrev pub withheld_text : Config → Zone → Option (List ℕ) → Open → Suppression
-    → Option ContactId → List ℕ
-withheld_text c zone asked current s None = stop_text c zone asked current s
-withheld_text c zone asked current s (Some contact) =
-    begin_text c zone asked current s.event s.object.0 s.moment s.kind s.state s.number
-    ++ refused_text c asked s contact.0
-
-abbrev pub line_text : Config → Zone → Option (List ℕ) → Open → ReportLine → List ℕ
-line_text c zone asked current (Decided (Sent n)) =
-    begin_text c zone asked current n.event n.object.0 n.moment n.kind n.state n.number
-    ++ told_text c asked n
-line_text c zone asked current (Decided (Withheld s)) =
-    withheld_text c zone asked current s s.contact
-line_text c zone asked current (Refused refused) = []
+abbrev pub line_text : Asked → Config → Zone → Open → ReportLine → List ℕ
+line_text asked c zone current (Decided (Sent n)) = sent_text asked c zone current n
+line_text asked c zone current (Decided (Withheld s)) =
+    withheld_text asked c zone current s s.contact
+line_text asked c zone current (Refused refused) = []

@@ -8,9 +8,11 @@ ghost use Rattle.due_model.specs.Accepted.{IsAccepted};
 ghost use Rattle.why_told.specs.Report.{TellsWhy, TellsWhyFront};
 
 mod attempts;
+mod missing;
+mod nothing;
+mod rows;
 mod teller;
 mod text;
-mod values;
 
 use command_output::{CommandFault, Ending, Sink};
 use due_model::config::Config;
@@ -23,7 +25,8 @@ use teller::Reasons;
 use text_lines::Input;
 
 /// Reads a feed for a configuration, and writes of each attempt on an object what became of it, as the lines of the feed's report have it. Repeated attempts
-/// that the same filter stops are one, with their number and the last moment. What is written comes with the line of the report that ends it. Where the output
+/// that the same filter stops are one, with their number and the last moment; as JSON each stands by itself. Where there was no attempt that is said, and which
+/// was the last before. What is written comes with the line of the report that ends it. Where the output
 /// fails or memory runs out, a front of it was written.
 pub fn why<R: Input + Drop, W: Sink, P: Watcher>(
     alloc: Global,

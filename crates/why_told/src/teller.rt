@@ -1,16 +1,17 @@
 //! The teller that writes of an object's attempts what became of each.
 
-ghost use Rattle.std.specs.Prelude.{◌≡◌, ◌&&◌, false, IfOk};
+ghost use Rattle.std.specs.Prelude.{◌≡◌, ◌&&◌, false, IfOk, None, OnOk};
 ghost use Rattle.why_told.specs.Attempts.{nothing_open};
-ghost use Rattle.why_told.specs.Teller.{is_between, is_of};
+ghost use Rattle.why_told.specs.Teller.{after_other, is_before, is_between, is_early, is_of};
 
 use crate::attempts::Open;
-use crate::text::{push_close, push_line};
+use crate::text::{push_ending, push_line};
 use due_model::config::Config;
 use line_forms::{Picks, ReportLine};
 use messages::entries::Entry;
 use report_telling::Teller;
 use std::alloc::{AllocError, Global};
+use who_missed::RowForm;
 use zone_times::clock::ZoneClock;
 
 /// What is asked of a report: why each message about an object went to whom it did, and to nobody else.
@@ -24,6 +25,8 @@ pub struct Asked<'a> {
     pub from: u64,
     /// The last moment.
     pub to: u64,
+    /// How it is written.
+    pub form: RowForm,
 }
 
 /// Writes of each attempt on an object its filters, and whom it goes to.
@@ -31,6 +34,8 @@ pub struct Asked<'a> {
 pub struct Reasons<'a> {
     alloc: Global,
     asked: Asked<'a>,
+    /// The last line of the object before the span.
+    before: Option<ReportLine>,
     current: Open,
 }
 
@@ -38,13 +43,25 @@ impl<'a> Reasons<'a> {
     /// One that was told no line yet.
     pub(crate) fn new(alloc: Global, asked: Asked<'a>) -> Reasons<'a>
         ensures asked { result.asked ≡ asked.entry }
+        ensures before { result.before ≡ None }
         ensures current { result.current ≡ nothing_open }
     {
         Reasons {
             alloc,
             asked,
+            before: None,
             current: Open::new(alloc),
         }
+    }
+
+    /// Goes on after a line that isn't of what is asked. A refused growth is the only error.
+    fn pass_over(&mut self, config: &Config, line: &ReportLine) -> Result<(), AllocError>
+        ensures { OnOk result (self.new ≡ after_other self.old config.now line.now) }
+    {
+        if is_early(self.alloc, self.asked, config, line)? {
+            self.before = Some(*line);
+        }
+        Ok(())
     }
 }
 
@@ -61,6 +78,17 @@ fn is_between(from: u64, to: u64, line: &ReportLine) -> bool
     }
 }
 
+/// Whether it is of an earlier one.
+fn is_before(from: u64, line: &ReportLine) -> bool
+    ensures { result ≡ is_before from line.now }
+{
+    match line {
+        ReportLine::Decided(Entry::Sent(notice)) => notice.moment < from,
+        ReportLine::Decided(Entry::Withheld(withheld)) => withheld.moment < from,
+        ReportLine::Refused(_) => false,
+    }
+}
+
 /// Whether a line of a report is of what is asked. A refused growth is the only error.
 fn is_of(
     alloc: Global,
@@ -71,6 +99,26 @@ fn is_of(
     ensures { IfOk result (λ is. is ≡ is_of asked.entry config.now line.now) }
 {
     if !is_between(asked.from, asked.to, line) {
+        return Ok(false);
+    }
+    let picks = Picks {
+        only: None,
+        object: Some(asked.object),
+        contact: None,
+    };
+    picks.is_picked(alloc, config, line)
+}
+
+/// Whether it is of the object, before the span. A refused growth is the only error.
+fn is_early(
+    alloc: Global,
+    asked: Asked<'_>,
+    config: &Config,
+    line: &ReportLine,
+) -> Result<bool, AllocError>
+    ensures { IfOk result (λ is. is ≡ is_early asked.entry config.now line.now) }
+{
+    if !is_before(asked.from, line) {
         return Ok(false);
     }
     let picks = Picks {
@@ -97,10 +145,12 @@ impl Teller for Reasons<'_> {
         line: &ReportLine,
         text: &mut Vec<u8>,
     ) -> Result<(), AllocError> {
-        if !is_of(self.alloc, self.asked, config, line)? {
+        let (alloc, asked) = (self.alloc, self.asked);
+        if !is_of(alloc, asked, config, line)? {
+            self.pass_over(config, line)?;
             return Ok(());
         }
-        push_line(text, config, clock, self.asked.contact, &self.current, line)?;
+        push_line(alloc, text, config, clock, asked, &self.current, line)?;
         self.current.go_on(line)
     }
 
@@ -110,6 +160,15 @@ impl Teller for Reasons<'_> {
         clock: &ZoneClock<'_>,
         text: &mut Vec<u8>,
     ) -> Result<(), AllocError> {
-        push_close(text, config, clock, self.asked.contact, &self.current)
+        let (alloc, asked) = (self.alloc, self.asked);
+        push_ending(
+            alloc,
+            text,
+            config,
+            clock,
+            asked,
+            self.before,
+            &self.current,
+        )
     }
 }

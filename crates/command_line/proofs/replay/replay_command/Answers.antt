@@ -10,4 +10,5 @@ returns c =
     let bare : app_of c.long_about.result ≡ new_app (codes "replay") = ap app_of_fields c.long_about.ensures ∙ ap app_of_fields c.about.ensures ∙ c.new.ensures.app in
     let added = c.in_ok-command.ensures.shape c.text_option-objects.ensures.local ∙ ap₂ with_rule bare c.text_option-objects.ensures.rule in
     let shown = c.in_ok-with_shown.ensures.words ∙ ap with_shown added in
-    record { words = IfOk-weaker c.with_zone.result _ _ (λ r h. h ∙ ap with_zone shown) c.with_zone.ensures.words }
+    let drawn = c.in_ok-with_shown-2.ensures.shape c.text_option-picture.ensures.local ∙ ap₂ with_rule shown c.text_option-picture.ensures.rule in
+    record { words = IfOk-weaker c.with_zone.result _ _ (λ r h. h ∙ ap with_zone drawn) c.with_zone.ensures.words }

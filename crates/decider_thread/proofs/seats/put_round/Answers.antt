@@ -7,7 +7,7 @@ use Rattle.decider_thread.proofs.PutLaws.{at_place, put_one}
 use Rattle.decider_thread.proofs.seats.put_round.Goals as goal
 
 pub put_front-requires-clause-puts : goal.put_front-requires-clause-puts
-put_front-requires-clause-puts c =
+put_front-requires-clause-puts g c =
     let whole = c.requires.puts.0 in
     let lane = c.loop-lane.lane in
     let queue = at_place c.args.queues.now c.from-place.result c.index-queues-place.result (search rules) c.index-queues-place.is in
@@ -16,7 +16,7 @@ put_front-requires-clause-puts c =
     (whole lane, subst (λ (s : Seat). Puts c.index-queues-place.result c.args.decider (waiting_at c.loop-lane.outbox lane) (whole lane) s.pass) c.index-seats-place.is puts)
 
 pub loop-lane-preserved : goal.loop-lane-preserved
-loop-lane-preserved c =
+loop-lane-preserved g c =
     let lane = c.loop-lane.lane in
     let place = c.from-place.result in
     let queue = at_place c.args.queues.now place c.index-queues-place.result (search rules) c.index-queues-place.is in

@@ -5,7 +5,7 @@ use Rattle.decider_thread.specs.Puts.{ArePut}
 use Rattle.decider_thread.proofs.seats.put_round.Given as goal
 
 abbrev pub invariant-loop-lane : goal.invariant-loop-lane
-invariant-loop-lane l =
+invariant-loop-lane g l =
     ((whole : ℕ → List Notice) → ArePut l.decider l.queues l.fn.seats (waiting_at l.fn.outbox) whole → ArePut l.decider l.queues l.seats (waiting_at l.outbox) whole)
     × (length l.seats ≡ length l.fn.seats)
     × (length (lists l.outbox) ≡ length (lists l.fn.outbox))

@@ -3,7 +3,7 @@ use Rattle.std.proofs.lemmas.Simd.{map-map}
 use Rattle.channel_words.specs.Lanes.{channels_for}
 use Rattle.due_model.specs.declared.config.LaneId.{LaneId}
 use Rattle.run_devices.specs.Channels.{opened}
-use Rattle.run_devices.proofs.PostLaws.{command_fails, opened_same}
+use Rattle.run_devices.proofs.PostLaws.{command_fails, fails_without_memory, opened_same}
 use Rattle.run_devices.proofs.run.do_run.Goals as goal
 
 pub run_through-requires-clause-each : goal.run_through-requires-clause-each
@@ -16,6 +16,16 @@ run_through-requires-clause-few g c κs within =
 pub returns-in_err-done-clause-fault : goal.returns-in_err-done-clause-fault
 returns-in_err-done-clause-fault g c =
     let fails = command_fails _ c.in_err-done.field-0.0 c.in_ok-config.config c.in_ok-config.lanes.items c.in_ok-config.ensures.right.right c.in_err-done.ensures.fault in
+    search rules
+
+pub returns-in_err-metrics-clause-fault : goal.returns-in_err-metrics-clause-fault
+returns-in_err-metrics-clause-fault g c =
+    let fails = fails_without_memory _ c.in_ok-config.config c.in_ok-config.lanes.items c.in_ok-config.ensures.right.right in
+    search rules
+
+pub returns-in_err-watched-clause-fault : goal.returns-in_err-watched-clause-fault
+returns-in_err-watched-clause-fault g c =
+    let fails = fails_without_memory _ c.in_ok-config.config c.in_ok-config.lanes.items c.in_ok-config.ensures.right.right in
     search rules
 
 pub returns-clause-ok : goal.returns-clause-ok

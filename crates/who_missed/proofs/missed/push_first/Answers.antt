@@ -6,7 +6,7 @@ use Rattle.who_missed.proofs.missed.push_first.Goals as goal
 
 pub loop-number-preserved : goal.loop-number-preserved
 loop-number-preserved c =
-    let line : ℕ → List ℕ = missed_line c.args.config.now c.args.clock.now c.args.object.0 c.args.until c.args.lines.now in
+    let line : ℕ → List ℕ = missed_line c.args.form.form c.args.config.now c.args.clock.now c.args.object.0 c.args.until c.args.lines.now in
     let number = c.loop-number.number in
     let text = c.args.text.now.items in
     c.in_ok-push_line.ensures

@@ -5,4 +5,4 @@ use Rattle.who_missed.proofs.missed.push_first.Given as goal
 
 abbrev pub invariant-loop-number : goal.invariant-loop-number
 invariant-loop-number l =
-    l.text.items ≡ l.fn.text.items ++ flat_map (missed_line l.config l.clock l.object.0 l.until l.lines) (range_with_len 0 l.number)
+    l.text.items ≡ l.fn.text.items ++ flat_map (missed_line l.form.form l.config l.clock l.object.0 l.until l.lines) (range_with_len 0 l.number)

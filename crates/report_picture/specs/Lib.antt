@@ -1,0 +1,3 @@
+pub mod Nights
+pub mod Drawing
+pub mod Draws
