@@ -1,9 +1,13 @@
 //! What is around the rows: the head, the time, and what the colours say.
 
 ghost use Rattle.std.specs.Prelude.{◌≡◌, ◌<◌, ◌≤◌, ◌++◌, OnOk};
-ghost use Rattle.night_picture.specs.Frame.{begin_words, bottom, contact_dot, contact_key, contact_keys, contact_words, ground_text, height, key_text};
-ghost use Rattle.night_picture.specs.Frame.{keys_text, left_line, left_text, left_words, mark_key, named_key, open_text, other_keys};
-ghost use Rattle.night_picture.specs.Frame.{period_text, period_words, state_keys, tick_line, tick_moment, tick_text};
+ghost use Rattle.night_picture.specs.Frame.{begin_words, bottom, contact_dot, contact_key};
+ghost use Rattle.night_picture.specs.Frame.{contact_keys, contact_words, ground_text, height};
+ghost use Rattle.night_picture.specs.Frame.{key_text};
+ghost use Rattle.night_picture.specs.Frame.{keys_text, left_line, left_text, left_words, mark_key};
+ghost use Rattle.night_picture.specs.Frame.{named_key, open_text, other_keys};
+ghost use Rattle.night_picture.specs.Frame.{period_text, period_words, state_keys, tick_line};
+ghost use Rattle.night_picture.specs.Frame.{tick_moment, tick_text};
 ghost use Rattle.night_picture.specs.Frame.{tick_words, tag_text, ticks_text};
 
 use crate::rows::push_told_paint;

@@ -1,7 +1,8 @@
 //! The picture of a feed.
 
 ghost use Rattle.std.specs.Prelude.{◌≡◌, ◌++◌, IfOk, OnOk};
-ghost use Rattle.night_picture.specs.Picture.{body_text, drawn_text, head_text, is_shown_mark, left_out, picture_text};
+ghost use Rattle.night_picture.specs.Picture.{body_text, drawn_text, head_text, is_shown_mark};
+ghost use Rattle.night_picture.specs.Picture.{left_out, picture_text};
 ghost use Rattle.night_picture.specs.Picture.{shown_marks, span_of};
 
 use crate::frame::{push_keys, push_left, push_open, push_period, push_ticks};

@@ -2,10 +2,14 @@
 
 ghost use Rattle.std.specs.Prelude.{◌≡◌, ◌≤◌, ◌++◌, find, flat_map, OnOk};
 ghost use Rattle.night_marks.specs.Lists.{is_of, mark_object};
-ghost use Rattle.night_picture.specs.Rows.{ack_band, ack_change, ack_start, band_text, change_in, change_text, downtime_band};
-ghost use Rattle.night_picture.specs.Rows.{downtime_change, downtime_start, first_condition, first_rows, mark_in, mark_state, mark_text, paint_of};
-ghost use Rattle.night_picture.specs.Rows.{marked_condition, name_text, row_at, row_text, rows_text, start_text, state_band};
-ghost use Rattle.night_picture.specs.Rows.{state_change, stopped_mark, told_mark, told_paint, x_at, y_at};
+ghost use Rattle.night_picture.specs.Rows.{ack_band, ack_change, ack_start, band_text, change_in};
+ghost use Rattle.night_picture.specs.Rows.{change_text, downtime_band};
+ghost use Rattle.night_picture.specs.Rows.{downtime_change, downtime_start, first_condition};
+ghost use Rattle.night_picture.specs.Rows.{first_rows, mark_in, mark_state, mark_text, paint_of};
+ghost use Rattle.night_picture.specs.Rows.{marked_condition, name_text, row_at, row_text};
+ghost use Rattle.night_picture.specs.Rows.{rows_text, start_text, state_band};
+ghost use Rattle.night_picture.specs.Rows.{state_change, stopped_mark, told_mark, told_paint, x_at};
+ghost use Rattle.night_picture.specs.Rows.{y_at};
 ghost use Rattle.night_picture.specs.Shapes.{escaped_text};
 ghost use Rattle.notice_text.specs.Texts.{object_text};
 

@@ -1,8 +1,10 @@
 //! The shapes of a picture as SVG, and the escapes of XML.
 
 ghost use Rattle.std.specs.Prelude.{◌≡◌, ◌++◌, decimal, flat_map, OnOk};
-ghost use Rattle.night_picture.specs.Shapes.{LeavesNoMarkup, attribute, bar_front, bar_text, corner_text, cut_end, cut_front, cut_text};
-ghost use Rattle.night_picture.specs.Shapes.{escaped, escaped_text, round_text, size_text, titled, words_front, words_text};
+ghost use Rattle.night_picture.specs.Shapes.{LeavesNoMarkup, attribute, bar_front, bar_text};
+ghost use Rattle.night_picture.specs.Shapes.{corner_text, cut_end, cut_front, cut_text};
+ghost use Rattle.night_picture.specs.Shapes.{escaped, escaped_text, round_text, size_text, titled};
+ghost use Rattle.night_picture.specs.Shapes.{words_front, words_text};
 
 use itoa::Buffer;
 use std::alloc::AllocError;

@@ -1,8 +1,10 @@
 //! The titles of marks, and the colours of a picture.
 
 ghost use Rattle.std.specs.Prelude.{◌≡◌, ◌++◌, OnOk};
-ghost use Rattle.night_picture.specs.Titles.{condition_text, contact_colour, for_contact, number_part, receiver_text};
-ghost use Rattle.night_picture.specs.Titles.{state_colour, stopped_front, stopped_title, time_text, told_title};
+ghost use Rattle.night_picture.specs.Titles.{condition_text, contact_colour, for_contact};
+ghost use Rattle.night_picture.specs.Titles.{number_part, receiver_text};
+ghost use Rattle.night_picture.specs.Titles.{state_colour, stopped_front, stopped_title, time_text};
+ghost use Rattle.night_picture.specs.Titles.{told_title};
 
 use crate::shapes::{push_decimal, push_text};
 use due_model::config::{Config, ContactId};

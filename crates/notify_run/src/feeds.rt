@@ -5,6 +5,7 @@ use command_line::{FeedWords, LogWords};
 use command_output::AnyWriter;
 use due_model::zone::Zone;
 use feed_file::{Feed, FeedFile, FeedWays};
+use json_report::{JsonWriter, ReportWriter};
 use run_devices::{
     FeedTimes, LogPlace, LoggedWords, MeteredFeed, MetricsPlace, RunSettings, RunWords,
     do_logged_run, do_run,
@@ -12,7 +13,7 @@ use run_devices::{
 use std::alloc::{AllocError, Global};
 use std::io;
 use std::process::ExitCode;
-use std::rt::Stdin;
+use std::rt::{Stdin, Stdout};
 use std::sync::{Arc, Wait};
 use std::thread::Threads;
 use std::time::Clock;
@@ -20,6 +21,19 @@ use text_lines::AnyReader;
 
 /// A feed as a run reads it.
 type RunFeed = MeteredFeed<AnyReader<Feed<Stdin>>>;
+
+/// Where a run writes its report.
+type RunWriter<'a> = AnyWriter<ReportWriter<'a, Stdout>>;
+
+/// Standard output, for the report as it is or as objects of JSON.
+fn writer_of<'a>(rt: &HostRuntime, zone: &'a Zone, is_json: bool) -> RunWriter<'a> {
+    let output = rt.stdout();
+    AnyWriter::new(if is_json {
+        ReportWriter::Json(JsonWriter::new(rt.alloc(), zone, output))
+    } else {
+        ReportWriter::Plain(output)
+    })
+}
 
 /// The feed of a run: standard input, or the file that is named, from its start.
 fn feed_of(rt: &HostRuntime, feed: FeedWords<'_>, is_quiet: bool) -> io::Result<Feed<Stdin>> {
@@ -75,6 +89,7 @@ pub(crate) fn status_of_feed<T: Threads + Wait + Clock + Sync>(
     let Ok(opened) = noted_feed(opened, metrics) else {
         return out_of_memory(rt);
     };
+    let mut writer = writer_of(rt, zone, log.json);
     match log.file {
         Some(file) => {
             let fold = log.fold;
@@ -84,7 +99,7 @@ pub(crate) fn status_of_feed<T: Threads + Wait + Clock + Sync>(
                 log: LogPlace { file, fold },
                 metrics,
             };
-            status_of_logged(rt, threads, zone, words, settings, opened)
+            status_of_logged(rt, threads, zone, words, settings, opened, &mut writer)
         }
         None => {
             let words = RunWords {
@@ -92,7 +107,7 @@ pub(crate) fn status_of_feed<T: Threads + Wait + Clock + Sync>(
                 channels,
                 metrics,
             };
-            status_of_new(rt, threads, zone, words, settings, opened)
+            status_of_new(rt, threads, zone, words, settings, opened, &mut writer)
         }
     }
 }
@@ -105,9 +120,9 @@ fn status_of_logged<T: Threads + Wait + Clock + Sync>(
     words: LoggedWords<'_, '_>,
     settings: RunSettings,
     feed: RunFeed,
+    writer: &mut RunWriter<'_>,
 ) -> ExitCode {
-    let mut writer = AnyWriter::new(rt.stdout());
-    let outcome = do_logged_run(rt, threads, zone, words, settings, feed, &mut writer);
+    let outcome = do_logged_run(rt, threads, zone, words, settings, feed, writer);
     status_of_run(rt, outcome.map(|done| done.ending))
 }
 
@@ -119,8 +134,8 @@ fn status_of_new<T: Threads + Wait + Clock + Sync>(
     words: RunWords<'_, '_>,
     settings: RunSettings,
     feed: RunFeed,
+    writer: &mut RunWriter<'_>,
 ) -> ExitCode {
-    let mut writer = AnyWriter::new(rt.stdout());
-    let outcome = do_run(rt, threads, zone, words, settings, feed, &mut writer);
+    let outcome = do_run(rt, threads, zone, words, settings, feed, writer);
     status_of_run(rt, outcome.map(|done| done.ending))
 }

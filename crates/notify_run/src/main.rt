@@ -202,9 +202,61 @@ fn status_of_run<R: Eprint>(rt: &R, outcome: Result<Ending, RunFault<'_>>) -> Ex
     }
 }
 
+/// Does what is asked in a zone, and gives the exit status. The handle is of the machine, and again that by which threads are started.
+fn status_in<T: Threads + Wait + Clock + Sync>(
+    rt: &HostRuntime,
+    threads: &T,
+    zone: &Zone,
+    request: Request<'_, '_>,
+) -> ExitCode
+    requires { AreSettingsFit request }
+{
+    let outcome = match request {
+        Request::Replay { objects, shown, .. } => match shown.picture {
+            Some(path) => return status_of_picture(rt, zone, objects, shown, path),
+            None => do_replay(rt, zone, objects, shown),
+        },
+        Request::Trace {
+            settings,
+            standbys,
+            ..
+        } => do_trace(rt, zone, settings, standbys),
+        Request::Who { objects, asked, .. } => {
+            return status_of_who(rt, threads, zone, objects, asked);
+        }
+        Request::Diff {
+            objects,
+            changed,
+            json,
+            ..
+        } => return status_of_diff(rt, zone, objects, changed, json),
+        Request::Why { objects, asked, .. } => return status_of_why(rt, zone, objects, asked),
+        Request::Run {
+            objects,
+            settings,
+            channels,
+            times,
+            quiet,
+            ahead,
+            log,
+            feed,
+            ..
+        } => {
+            let settings = RunSettings {
+                settings,
+                timeout: times.timeout,
+                pause: times.pause,
+                quiet,
+                ahead,
+            };
+            return status_of_feed(rt, threads, zone, objects, settings, channels, log, feed);
+        }
+    };
+    status_of(rt, outcome)
+}
+
 /// Does what is asked, and gives the exit status. Letters and forms of lines are looked at before the zone is read, and that before
-/// anything else. The handle is of the machine, and again
-/// that by which threads are started.
+/// anything else.
 fn status_of_request<T: Threads + Wait + Clock + Sync>(
     rt: &HostRuntime,
     threads: &T,
@@ -227,52 +279,10 @@ fn status_of_request<T: Threads + Wait + Clock + Sync>(
         return status_of_words(rt, "two forms");
     }
     let words = request.zone();
-    let zone = match zone_asked(rt, words) {
-        Ok(zone) => zone,
-        Err(fault) => return status_of_zone(rt, words, fault),
-    };
-    let outcome = match request {
-        Request::Replay { objects, shown, .. } => match shown.picture {
-            Some(path) => return status_of_picture(rt, &zone, objects, shown, path),
-            None => do_replay(rt, &zone, objects, shown),
-        },
-        Request::Trace {
-            settings,
-            standbys,
-            ..
-        } => do_trace(rt, &zone, settings, standbys),
-        Request::Who { objects, asked, .. } => {
-            return status_of_who(rt, threads, &zone, objects, asked);
-        }
-        Request::Diff {
-            objects,
-            changed,
-            json,
-            ..
-        } => return status_of_diff(rt, &zone, objects, changed, json),
-        Request::Why { objects, asked, .. } => return status_of_why(rt, &zone, objects, asked),
-        Request::Run {
-            objects,
-            settings,
-            channels,
-            times,
-            quiet,
-            ahead,
-            log,
-            feed,
-            ..
-        } => {
-            let settings = RunSettings {
-                settings,
-                timeout: times.timeout,
-                pause: times.pause,
-                quiet,
-                ahead,
-            };
-            return status_of_feed(rt, threads, &zone, objects, settings, channels, log, feed);
-        }
-    };
-    status_of(rt, outcome)
+    match zone_asked(rt, words) {
+        Ok(zone) => status_in(rt, threads, &zone, request),
+        Err(fault) => status_of_zone(rt, words, fault),
+    }
 }
 
 fn main(rt: HostRuntime) -> ExitCode {

@@ -16,8 +16,8 @@ use Rattle.night_marks.specs.Night.{nothing_heard}
 use Rattle.report_telling.specs.Lines.{answer_lines, lines_from, report_lines}
 use Rattle.report_telling.specs.Told.{Form, after_all, told_all, told_report}
 use Rattle.report_telling.specs.Telling.{Follows, TellsFeedFront}
-use Rattle.report_telling.proofs.TellingLaws.{follows_more, follows_start, given_then, some_given}
-use Rattle.report_telling.proofs.ToldLaws.{after-append, told-append}
+use Rattle.report_telling.specs.FollowLaws.{follows_more, follows_start, given_then, some_given}
+use Rattle.report_telling.specs.ToldLaws.{after-append, told-append}
 use Rattle.report_picture.specs.declared.drawing.Picture.{Picture}
 use Rattle.report_picture.specs.Drawing.{DrawsFeed, Ends, GoesOn, IsDrawn}
 use Rattle.report_picture.specs.Nights.{night_given, night_of, night_on}

@@ -1,7 +1,8 @@
 //! A report and a picture under way, line by line of the feed as it comes.
 
 ghost use Rattle.std.specs.Prelude.{◌≡◌, ◌+◌, ◌≤◌, ◌∷◌, [], ◌++◌, List, map};
-ghost use Rattle.std.specs.Prelude.{filter, length, false, true, IfErr, IfNone, IfOk, IfSome, None, Ok, OnOk};
+ghost use Rattle.std.specs.Prelude.{filter, length, false, true, IfErr, IfNone, IfOk, IfSome, None};
+ghost use Rattle.std.specs.Prelude.{Ok, OnOk};
 ghost use Rattle.command_output.specs.Outcome.{IsWriteFault};
 ghost use Rattle.command_output.specs.declared.outcome.CommandFault.TheVariants.{NoMemory};
 ghost use Rattle.decider.specs.Fits.{Fits, core_kept, settings};

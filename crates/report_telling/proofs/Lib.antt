@@ -1,4 +1,3 @@
 pub mod LineLaws
 pub mod ToldLaws
 pub mod TellingLaws
-pub mod TellsLaws

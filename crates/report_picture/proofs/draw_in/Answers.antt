@@ -5,7 +5,7 @@ use Rattle.written.specs.WrittenLaws.{keeps_same}
 use Rattle.command_input.specs.InputLaws.{input_failed, some_all}
 use Rattle.report_telling.specs.Told.{form_of}
 use Rattle.report_telling.specs.Tells.{TellsFront}
-use Rattle.report_telling.proofs.TellsLaws.{fault_of_input}
+use Rattle.report_telling.specs.TellsLaws.{fault_of_input}
 use Rattle.report_picture.proofs.DrawsLaws.{drawn_of_input}
 use Rattle.report_picture.proofs.draw_in.Goals as goal
 

@@ -4,7 +4,7 @@ use Rattle.event_feed.specs.Feed.{Feed}
 use Rattle.written.specs.WrittenLaws.{keeps_same}
 use Rattle.command_input.specs.InputLaws.{some_all}
 use Rattle.report_telling.specs.Told.{form_of}
-use Rattle.report_telling.proofs.TellsLaws.{fault_of_files, file_failed, telling_of_files}
+use Rattle.report_telling.specs.TellsLaws.{fault_of_files, file_failed, telling_of_files}
 use Rattle.report_telling.proofs.tell_files.Goals as goal
 
 pub write-requires-clause-goes_on : goal.write-requires-clause-goes_on

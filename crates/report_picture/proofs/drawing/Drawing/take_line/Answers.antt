@@ -9,8 +9,8 @@ use Rattle.line_forms.specs.declared.report_line.ReportLine.{ReportLine}
 use Rattle.replay.specs.Report.{past_after}
 use Rattle.report_telling.specs.Lines.{refusal_line}
 use Rattle.report_telling.specs.Told.{after_all, form_of, told_all}
-use Rattle.report_telling.proofs.ToldLaws.{told-one}
-use Rattle.report_telling.proofs.TellingLaws.{event_taken, fault_taken, if_none, lines_of_event, report_of_end, short_at_end, short_at_refusal, taken_same}
+use Rattle.report_telling.specs.ToldLaws.{told-one}
+use Rattle.report_telling.specs.FollowLaws.{event_taken, fault_taken, if_none, lines_of_event, report_of_end, short_at_end, short_at_refusal, taken_same}
 use Rattle.report_picture.specs.Nights.{night_given, night_on}
 use Rattle.report_picture.proofs.drawing.Drawing.take_line.Given.{Over}
 use Rattle.report_picture.proofs.drawing.Drawing.take_line.Goals.{After-decide_event}

@@ -18,8 +18,8 @@ use Rattle.line_forms.specs.declared.report_line.ReportLine.{ReportLine}
 use Rattle.line_forms.specs.declared.report_line.ReportLine.TheVariants.{Decided}
 use Rattle.report_telling.specs.Lines.{answer_lines, given_lines, refusal_line}
 use Rattle.report_telling.specs.Told.{Form, after_all, form_of, told_all}
-use Rattle.report_telling.proofs.ToldLaws.{told-one}
-use Rattle.report_telling.proofs.TellingLaws.{lines_of_end, lines_of_event}
+use Rattle.report_telling.specs.ToldLaws.{told-one}
+use Rattle.report_telling.specs.FollowLaws.{lines_of_end, lines_of_event}
 use Rattle.report_telling.proofs.telling.Telling.decide_event.Given.{Over}
 use Rattle.report_telling.proofs.telling.Telling.decide_event.Goals.{After-tell, After-tell_entries}
 use Rattle.report_telling.proofs.telling.Telling.decide_event.Goals as goal

@@ -10,8 +10,9 @@ use Rattle.line_forms.specs.declared.report_line.ReportLine.{ReportLine}
 use Rattle.report_telling.specs.Lines.{answer_lines, given_lines, lines_from, refusal_line}
 use Rattle.report_telling.specs.Telling.{TellsPart}
 use Rattle.report_telling.specs.Told.{Form, after_all, form_of, told_all}
-use Rattle.report_telling.proofs.ToldLaws.{part_begun, told-one}
-use Rattle.report_telling.proofs.TellingLaws.{event_taken, fault_taken, if_none, lines_of_event, report_of_end, short_at_end, short_at_refusal, taken_same}
+use Rattle.report_telling.specs.ToldLaws.{told-one}
+use Rattle.report_telling.proofs.ToldLaws.{part_begun}
+use Rattle.report_telling.specs.FollowLaws.{event_taken, fault_taken, if_none, lines_of_event, report_of_end, short_at_end, short_at_refusal, taken_same}
 use Rattle.report_telling.proofs.telling.Telling.take_line.Given.{Over}
 use Rattle.report_telling.proofs.telling.Telling.take_line.Goals.{After-decide_event, After-tell}
 use Rattle.report_telling.proofs.telling.Telling.take_line.Goals as goal
