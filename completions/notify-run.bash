@@ -21,7 +21,7 @@ _notify_run() {
         "") words="replay trace run who diff why -h --help -V --version" ;;
         replay) words="--objects --only --object --contact --json --pretty --picture --zone --zone-file -h --help" ;;
         trace) words="--deciders --standbys --queue --tries --zone --zone-file -h --help" ;;
-        run) words="--objects --deciders --queue --tries --timeout --pause --ahead --log --fold --metrics --quiet --feed --follow --clock --zone --zone-file -h --help" ;;
+        run) words="--objects --deciders --queue --tries --timeout --pause --ahead --log --fold --metrics --json --quiet --feed --follow --clock --zone --zone-file -h --help" ;;
         who) words="--objects --at --for --down --json --zone --zone-file -h --help" ;;
         diff) words="--objects --with --json --zone --zone-file -h --help" ;;
         why) words="--objects --object --contact --from --to --json --zone --zone-file -h --help" ;;

@@ -35,6 +35,7 @@ complete -c notify-run -n '__fish_seen_subcommand_from run' -l ahead -x -d 'How 
 complete -c notify-run -n '__fish_seen_subcommand_from run' -l log -r -F -d 'Writes the report to this file as it goes, one line at a time'
 complete -c notify-run -n '__fish_seen_subcommand_from run' -l fold -d 'Leaves out S lines of the log that repeat the one before of their object'
 complete -c notify-run -n '__fish_seen_subcommand_from run' -l metrics -r -F -d 'Writes numbers of the run to this file each 15 seconds, for Prometheus'
+complete -c notify-run -n '__fish_seen_subcommand_from run' -l json -d 'Writes each line on standard output as an object of JSON'
 complete -c notify-run -n '__fish_seen_subcommand_from run' -l quiet -d 'Says nothing on standard error of what fails as it goes'
 complete -c notify-run -n '__fish_seen_subcommand_from run' -l feed -r -F -d 'A file that the feed is read from, in place of standard input'
 complete -c notify-run -n '__fish_seen_subcommand_from run' -l follow -d 'Goes on reading FILE as it grows, until the program is ended'
