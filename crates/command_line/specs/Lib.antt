@@ -1,3 +1,4 @@
 pub mod Options
+pub mod State
 pub mod Why
 pub mod Words

@@ -6,11 +6,13 @@ mod diff;
 mod options;
 mod replay;
 mod run;
+pub mod state;
 mod trace;
 mod who;
 pub mod why;
 pub mod words;
 
 pub use asked::{command, request_of};
+pub use state::{FeedFault, StateWords};
 pub use why::WhyWords;
 pub use words::{FeedWords, LogWords, Request, ShownWords, WhoWords, ZoneWords};

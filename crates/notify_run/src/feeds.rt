@@ -1,4 +1,8 @@
-//! The runs of a feed: of standard input, and of a file.
+//! The runs of a feed: of standard input, of a file, and those that go on where earlier ones have ended.
+
+ghost use Rattle.std.specs.Prelude.{◌≡◌, IfErr};
+ghost use Rattle.std.specs.Process.{exit_status};
+ghost use Rattle.run_resumed.specs.Fault.{resume_status};
 
 use crate::{out_of_memory, status_of_run};
 use command_line::{FeedWords, LogWords};
@@ -9,8 +13,11 @@ use run_devices::{
     FeedTimes, LogPlace, LoggedWords, MeteredFeed, MetricsPlace, RunSettings, RunWords,
     do_logged_run, do_run,
 };
+use run_resumed::{
+    ResumeFault, Resumed, ResumedSettings, StateSettings, do_logged_resumed_run, do_resumed_run,
+};
 use std::alloc::{AllocError, Global};
-use std::io;
+use std::io::{self, Eprint};
 use std::process::ExitCode;
 use std::rt::Stdin;
 use std::sync::{Arc, Wait};
@@ -75,6 +82,23 @@ pub(crate) fn status_of_feed<T: Threads + Wait + Clock + Sync>(
     let Ok(opened) = noted_feed(opened, metrics) else {
         return out_of_memory(rt);
     };
+    let words = RunWords {
+        objects,
+        channels,
+        metrics,
+    };
+    if let Some(folder) = feed.state.folder {
+        let settings = ResumedSettings {
+            run: settings,
+            state: StateSettings {
+                folder,
+                feed: feed.file.unwrap_or(""),
+                drops_doubt: feed.state.drops_doubt(),
+                from_now: feed.state.from_now,
+            },
+        };
+        return status_of_resumed(rt, threads, zone, words, settings, log, opened);
+    }
     match log.file {
         Some(file) => {
             let fold = log.fold;
@@ -86,14 +110,7 @@ pub(crate) fn status_of_feed<T: Threads + Wait + Clock + Sync>(
             };
             status_of_logged(rt, threads, zone, words, settings, opened)
         }
-        None => {
-            let words = RunWords {
-                objects,
-                channels,
-                metrics,
-            };
-            status_of_new(rt, threads, zone, words, settings, opened)
-        }
+        None => status_of_new(rt, threads, zone, words, settings, opened),
     }
 }
 
@@ -123,4 +140,37 @@ fn status_of_new<T: Threads + Wait + Clock + Sync>(
     let mut writer = AnyWriter::new(rt.stdout());
     let outcome = do_run(rt, threads, zone, words, settings, feed, &mut writer);
     status_of_run(rt, outcome.map(|done| done.ending))
+}
+
+/// Does a run that goes on where earlier ones have ended, with a log or without, and gives its exit status.
+fn status_of_resumed<T: Threads + Wait + Clock + Sync>(
+    rt: &HostRuntime,
+    threads: &T,
+    zone: &Zone,
+    words: RunWords<'_, '_>,
+    settings: ResumedSettings<'_>,
+    log: LogWords<'_>,
+    feed: RunFeed,
+) -> ExitCode {
+    let mut writer = AnyWriter::new(rt.stdout());
+    let outcome = match log.file {
+        Some(file) => {
+            let fold = log.fold;
+            let log = LogPlace { file, fold };
+            do_logged_resumed_run(rt, threads, zone, words, settings, log, feed, &mut writer)
+        }
+        None => do_resumed_run(rt, threads, zone, words, settings, feed, &mut writer),
+    };
+    status_of_outcome(rt, outcome)
+}
+
+/// Says on standard error what a run that goes on failed with, if it did and that wasn't said, and gives its exit status.
+fn status_of_outcome<R: Eprint>(rt: &R, outcome: Result<Resumed, ResumeFault<'_>>) -> ExitCode
+    ensures { IfErr outcome (λ fault. exit_status result ≡ resume_status fault.entry) }
+{
+    match outcome {
+        Ok(done) => status_of_run(rt, Ok(done.ending)),
+        Err(ResumeFault::Run(fault)) => status_of_run(rt, Err(fault)),
+        Err(ResumeFault::State) => ExitCode::from(1),
+    }
 }
