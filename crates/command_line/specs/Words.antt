@@ -15,6 +15,7 @@ use Rattle.steps.specs.Settings.{AreSettings, max_channels}
 use Rattle.clap.specs.declared.builder.action.ArgAction.TheVariants.{Append}
 use Rattle.clap.specs.declared.builder.value_parser.ValueParser.TheVariants.{Signed}
 use Rattle.command_line.specs.State.{IsStateOf, state_fault, with_state_options}
+use Rattle.command_line.specs.Check.{check_words, IsCheckOf, LacksCheck}
 use Rattle.command_line.specs.Why.{IsWhyOf, LacksWhy, why_words}
 pub use Rattle.command_line.specs.Options.{flag_option, IsFlag, text_option, with_zone}
 use Rattle.command_line.specs.declared.state.FeedFault.{FeedFault}
@@ -26,7 +27,7 @@ use Rattle.command_line.specs.declared.words.ShownWords.{ShownWords}
 use Rattle.command_line.specs.declared.words.TryTimes.{TryTimes}
 use Rattle.command_line.specs.declared.words.WhoWords.{WhoWords}
 use Rattle.command_line.specs.declared.words.ZoneWords.{ZoneWords}
-use Rattle.command_line.specs.declared.words.Request.TheVariants.{Replay, Trace, Run, Who, Diff, Why}
+use Rattle.command_line.specs.declared.words.Request.TheVariants.{Replay, Trace, Run, Who, Diff, Why, Check}
 
 -- the name of the command that is asked for
 abbrev pub request_name : Request → List ℕ
@@ -36,6 +37,7 @@ request_name (Run objects settings zone channels times quiet ahead log feed) = c
 request_name (Who objects zone asked) = codes "who"
 request_name (Diff objects changed zone json) = codes "diff"
 request_name (Why objects zone asked) = codes "why"
+request_name (Check zone asked) = codes "check"
 
 -- in a trace fewer channels stand by than a lane may have
 abbrev pub AreSettingsFit : Request → Type 0
@@ -45,6 +47,7 @@ AreSettingsFit (Run objects settings zone channels times quiet ahead log feed) =
 AreSettingsFit (Who objects zone asked) = Unit {0}
 AreSettingsFit (Diff objects changed zone json) = Unit {0}
 AreSettingsFit (Why objects zone asked) = Unit {0}
+AreSettingsFit (Check zone asked) = Unit {0}
 
 -- the texts that the options of a command hold of the zone
 pub record IsZoneOf (options : Found) (words : ZoneWords) : Type 0 where
@@ -144,6 +147,10 @@ DiffLacks options = is_some (first_value options (codes "objects")) ≡ true
 abbrev pub WhyLacks : Found → Type 0
 WhyLacks options = is_some (first_value options (codes "objects")) ≡ true → LacksWhy options
 
+-- The options of `check` make no request: they name no file.
+abbrev pub CheckLacks : Found → Type 0
+CheckLacks options = LacksCheck options
+
 -- The options of `run` make no request: they name no file, or the numbers that they hold are no settings or no times.
 abbrev pub RunLacks : Found → Type 0
 RunLacks options = (deciders : ℕ) → is_some (first_value options (codes "objects")) ≡ true
@@ -178,6 +185,7 @@ IsRequestOf options (Diff objects changed zone json) =
 IsRequestOf options (Why objects zone asked) =
     (Some objects.now ≡ first_value options (codes "objects")) × IsZoneOf options zone
     × IsWhyOf options asked
+IsRequestOf options (Check zone asked) = IsZoneOf options zone × IsCheckOf options asked
 
 -- it is what the command that was met asks, with its options
 abbrev pub IsAskedBy : ArgMatches → Request → Type 0
@@ -198,6 +206,7 @@ request_zone (Run objects settings zone channels times quiet ahead log feed) = z
 request_zone (Who objects zone asked) = zone
 request_zone (Diff objects changed zone json) = zone
 request_zone (Why objects zone asked) = zone
+request_zone (Check zone asked) = zone
 
 -- It says how a file is read as the feed, or what is kept for it, and names none; or what it says of what is kept is wrong.
 abbrev pub fault_of : FeedWords → (ahead : Option ℕ) → Option FeedFault
@@ -212,6 +221,11 @@ feed_fault (Run objects settings zone channels times quiet ahead log feed) = fau
 feed_fault (Who objects zone asked) = None
 feed_fault (Diff objects changed zone json) = None
 feed_fault (Why objects zone asked) = None
+feed_fault (Check zone asked) = None
+
+-- it gives a rule, or a file
+abbrev pub is_given : ZoneWords → Bool
+is_given words = is_some words.rule || is_some words.file
 
 -- it gives a rule and a file
 abbrev pub AreTwo : ZoneWords → Type 0
@@ -234,6 +248,7 @@ asks_two_forms (Run objects settings zone channels times quiet ahead log feed) =
 asks_two_forms (Who objects zone asked) = false
 asks_two_forms (Diff objects changed zone json) = false
 asks_two_forms (Why objects zone asked) = false
+asks_two_forms (Check zone asked) = false
 
 -- a line of a report begins with this letter: N, S, C or R
 abbrev pub is_line_letter : ℕ → Bool
@@ -251,6 +266,7 @@ asks_bad_letters (Run objects settings zone channels times quiet ahead log feed)
 asks_bad_letters (Who objects zone asked) = false
 asks_bad_letters (Diff objects changed zone json) = false
 asks_bad_letters (Why objects zone asked) = false
+asks_bad_letters (Check zone asked) = false
 
 -- `--NAME NUMBER`, with a number from `least` to `most`, or with `default` where it is left out
 abbrev pub number_option : (name default : List ℕ) → (least most : ℕ) → Rule
@@ -380,5 +396,5 @@ program_words = record {
     subcommand_required = true;
     arg_required_else_help = true;
   };
-  subs = replay_words.top ∷ trace_words.top ∷ run_words.top ∷ who_words.top ∷ diff_words.top ∷ why_words.top ∷ [];
+  subs = replay_words.top ∷ trace_words.top ∷ run_words.top ∷ who_words.top ∷ diff_words.top ∷ why_words.top ∷ check_words.top ∷ [];
 }

@@ -2,6 +2,7 @@
 #![tactic(auto)]
 
 mod asked;
+pub mod check;
 mod diff;
 mod options;
 mod replay;
@@ -14,5 +15,6 @@ pub mod words;
 
 pub use asked::{command, request_of};
 pub use state::{FeedFault, StateWords};
+pub use check::CheckWords;
 pub use why::WhyWords;
 pub use words::{FeedWords, LogWords, Request, ShownWords, WhoWords, ZoneWords};

@@ -4,13 +4,14 @@ ghost use Rattle.std.specs.Prelude.{◌≡◌, IfErr};
 ghost use Rattle.std.specs.Process.{exit_status};
 ghost use Rattle.run_resumed.specs.Fault.{resume_status};
 
+use crate::faults::say_more_of_run;
 use crate::{out_of_memory, status_of_run};
 use command_line::{FeedWords, LogWords};
-use command_output::AnyWriter;
+use command_output::{AnyWriter, Ending};
 use due_model::zone::Zone;
 use feed_file::{Feed, FeedFile, FeedWays};
 use run_devices::{
-    FeedTimes, LogPlace, LoggedWords, MeteredFeed, MetricsPlace, RunSettings, RunWords,
+    FeedTimes, LogPlace, LoggedWords, MeteredFeed, MetricsPlace, RunFault, RunSettings, RunWords,
     do_logged_run, do_run,
 };
 use run_resumed::{
@@ -125,7 +126,8 @@ fn status_of_logged<T: Threads + Wait + Clock + Sync>(
 ) -> ExitCode {
     let mut writer = AnyWriter::new(rt.stdout());
     let outcome = do_logged_run(rt, threads, zone, words, settings, feed, &mut writer);
-    status_of_run(rt, outcome.map(|done| done.ending))
+    let outcome = outcome.map(|done| done.ending);
+    status_of_done(rt, words.objects, words.channels, settings, outcome)
 }
 
 /// Does a run without a log, and gives its exit status.
@@ -139,7 +141,23 @@ fn status_of_new<T: Threads + Wait + Clock + Sync>(
 ) -> ExitCode {
     let mut writer = AnyWriter::new(rt.stdout());
     let outcome = do_run(rt, threads, zone, words, settings, feed, &mut writer);
-    status_of_run(rt, outcome.map(|done| done.ending))
+    let outcome = outcome.map(|done| done.ending);
+    status_of_done(rt, words.objects, words.channels, settings, outcome)
+}
+
+/// Says on standard error what a run failed with, if it did, and why, and gives its exit status.
+fn status_of_done(
+    rt: &HostRuntime,
+    objects: &str,
+    channels: Option<&[&str]>,
+    settings: RunSettings,
+    outcome: Result<Ending, RunFault<'_>>,
+) -> ExitCode {
+    let status = status_of_run(rt, outcome);
+    if let Err(fault) = outcome {
+        say_more_of_run(rt, objects, channels, settings, fault);
+    }
+    status
 }
 
 /// Does a run that goes on where earlier ones have ended, with a log or without, and gives its exit status.
@@ -161,7 +179,15 @@ fn status_of_resumed<T: Threads + Wait + Clock + Sync>(
         }
         None => do_resumed_run(rt, threads, zone, words, settings, feed, &mut writer),
     };
-    status_of_outcome(rt, outcome)
+    let fault = match &outcome {
+        Err(ResumeFault::Run(fault)) => Some(*fault),
+        _ => None,
+    };
+    let status = status_of_outcome(rt, outcome);
+    if let Some(fault) = fault {
+        say_more_of_run(rt, words.objects, words.channels, settings.run, fault);
+    }
+    status
 }
 
 /// Says on standard error what a run that goes on failed with, if it did and that wasn't said, and gives its exit status.
