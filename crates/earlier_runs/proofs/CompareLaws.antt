@@ -8,7 +8,7 @@ use Rattle.std.proofs.lemmas.List.Elements.{All-nil, All-push}
 use Rattle.std.proofs.lemmas.Option.{slice_get-get_or}
 use Rattle.due_model.specs.declared.notice.Notice.{Notice}
 use Rattle.journaled.specs.Claims.{IsHeld, is_settled}
-use Rattle.earlier_runs.specs.declared.state.LaneState.{LaneState}
+use Rattle.earlier_runs.specs.declared.left.LaneState.{LaneState}
 use Rattle.earlier_runs.specs.declared.compared.Change.{Change}
 use Rattle.earlier_runs.specs.declared.compared.Change.TheVariants as change
 use Rattle.earlier_runs.specs.Compared.{AreLong, Differs, HasCompared, IsFirstLeft, IsShort, StopsAt, TellsChange, claims_of, is_claimed}

@@ -1,11 +1,11 @@
 -- What the feed makes due, against what the journals say was sent of it.
-use Rattle.std.specs.Prelude.{◌≡◌, ℕ, ◌-◌, ◌<◌, ◌≤◌, ◌==◌, ◌&&◌, All, Bool, not, nat_lt, List, ◌∷◌, ◌++◌, filter, length, slice_get, slice_index_or, Option, None, Some}
+use Rattle.std.specs.Prelude.{◌≡◌, ℕ, ◌-◌, ◌<◌, ◌≤◌, ◌==◌, ◌&&◌, All, Bool, true, not, nat_lt, List, ◌∷◌, ◌++◌, filter, length, slice_get, slice_index_or, Option, None, Some}
 use Rattle.std.specs.Option.{option_map_or}
 use Rattle.due_model.specs.declared.notice.Notice.{Notice}
 use Rattle.journaled.specs.Claims.{IsHeld, is_settled}
 use Rattle.earlier_runs.specs.declared.compared.Change.{Change}
 use Rattle.earlier_runs.specs.declared.compared.Change.TheVariants as change
-use Rattle.earlier_runs.specs.declared.state.LaneState.{LaneState}
+use Rattle.earlier_runs.specs.declared.left.LaneState.{LaneState}
 use Rattle.earlier_runs.specs.State.{past_in}
 
 -- ---- of one letter that is due
@@ -20,7 +20,7 @@ pub record Differs (states : List LaneState) (n : Notice) : Type 0 where
 
 -- it is of lane l, of an event from which on letters are handed over, and settled
 abbrev pub is_claimed : LaneState → (l : ℕ) → Notice → Bool
-is_claimed state l n = (n.lane.0 == l) && not (nat_lt n.event state.from) && is_settled (past_in state) n
+is_claimed state l n = (n.lane.0 == l) && (not (nat_lt n.event state.from) && is_settled (past_in state) n)
 
 -- ---- of all
 

@@ -2,10 +2,9 @@
 use Rattle.std.proofs.Common.{◌≡◌, ℕ, ◌+◌, ◌-◌, List, [], ◌++◌, filter, length, get_or, Option, None, Some, refl, ap, ◌∙◌, subst, arith, length-append}
 use Rattle.std.specs.Prelude.{slice_get}
 use Rattle.std.specs.Option.{option_map_or}
-use Rattle.std.proofs.lemmas.List.{filter-append}
-use Rattle.std.proofs.lemmas.List.Elements.{All-append, All-nil}
+use Rattle.std.proofs.lemmas.List.Elements.{All-append, All-nil, filter-append}
 use Rattle.due_model.specs.declared.notice.Notice.{Notice}
-use Rattle.earlier_runs.specs.declared.state.LaneState.{LaneState}
+use Rattle.earlier_runs.specs.declared.left.LaneState.{LaneState}
 use Rattle.earlier_runs.specs.Compared.{Differs, HasCompared, NoneDiffers, claims_of, is_claimed}
 
 none_by : (found : Option LaneState) (l : ℕ) → option_map_or (λ state. length (filter (is_claimed state l) [])) found 0 ≡ 0

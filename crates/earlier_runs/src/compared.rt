@@ -1,12 +1,12 @@
 //! What the feed makes due, against what the journals say was sent of it.
 
-ghost use Rattle.std.specs.Prelude.{◌≡◌, ◌≤◌, ◌-◌, ◌==◌, ℕ, [], map, IfNone, IfOk, IfSome, Some, if◌then◌else◌, length, slice_index_or};
+ghost use Rattle.std.specs.Prelude.{◌≡◌, ◌≤◌, ◌-◌, ◌==◌, ℕ, [], List, map, IfNone, IfOk, IfSome, Some, if◌then◌else◌, length, slice_index_or};
 ghost use Rattle.due_feed.specs.Seen.{due_of, past_of, unread};
 ghost use Rattle.due_model.specs.Accepted.{IsAccepted};
 ghost use Rattle.event_feed.specs.Feed.{Answer, AreGivenBy};
 ghost use Rattle.earlier_runs.specs.Compared.{AreLong, IsFirstLeft, IsShort, TellsChange};
 
-use crate::state::LaneState;
+use crate::left::LaneState;
 use due_feed::{LookFault, Looker, look_through};
 use due_model::config::{Config, LaneId};
 use due_model::notice::Notice;
@@ -37,9 +37,10 @@ struct Comparing<'s> {
 }
 
 /// One less at this place, if there is one.
-fn take_one(left: &mut [u64], place: usize)
-    ensures { (l : ℕ) → slice_index_or left.new l 0
-        ≡ slice_index_or left.old l 0 - (if l == place then 1 else 0) }
+fn take_one(left: &mut Vec<u64>, place: usize)
+    ensures fewer { (l : ℕ) → slice_index_or left.new.items l 0
+        ≡ slice_index_or left.old.items l 0 - (if l == place then 1 else 0) }
+    ensures count { length left.new.items ≡ length left.old.items }
 {
     if place < left.len() {
         left[place] = left[place].saturating_sub(1);
@@ -70,7 +71,7 @@ impl Looker for Comparing<'_> {
         match state.past.find(notice) {
             Claim::New => Ok(()),
             Claim::Held => {
-                take_one(self.left.as_mut_slice(), usize::from(notice.lane.0));
+                take_one(&mut self.left, usize::from(notice.lane.0));
                 Ok(())
             }
             Claim::Differs => {

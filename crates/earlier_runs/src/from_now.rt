@@ -6,7 +6,8 @@ ghost use Rattle.due_feed.specs.Seen.{past_of, unread};
 ghost use Rattle.event_feed.specs.Feed.{Answer, AreGivenBy};
 ghost use Rattle.due_model.specs.Accepted.{IsAccepted};
 
-use crate::state::{LaneState, lane_state};
+use crate::left::LaneState;
+use crate::state::lane_state;
 use due_feed::{LookFault, Looker, look_through};
 use due_model::config::{Config, LaneId};
 use due_model::notice::Notice;

@@ -4,12 +4,14 @@
 
 pub mod compared;
 pub mod from_now;
+pub mod left;
 pub mod state;
 pub mod strays;
 pub mod tally;
 
 pub use compared::{Change, change_of};
 pub use from_now::{events_of, give_up_all};
-pub use state::{LaneState, lane_state, states_of};
+pub use left::LaneState;
+pub use state::{lane_state, states_of};
 pub use strays::stray_journal;
 pub use tally::{LaneTally, push_tally, tally_of};

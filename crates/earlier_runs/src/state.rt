@@ -5,6 +5,7 @@ ghost use Rattle.std.specs.Arc.{arc_value};
 ghost use Rattle.journaled.specs.Runs.{since};
 ghost use Rattle.earlier_runs.specs.State.{IsOfJournals, IsState};
 
+use crate::left::LaneState;
 use due_model::config::{Config, LaneId};
 use due_model::notice::Notice;
 use journal_folder::lane_past::new_among;
@@ -13,20 +14,6 @@ use journal_text::entry::Entry;
 use journaled::{Journal, Past};
 use std::alloc::{AllocError, Global};
 use std::sync::Arc;
-
-/// What earlier runs left of a lane.
-#[derive(Drop)]
-pub struct LaneState {
-    /// What its channels go by.
-    pub past: Arc<Past, Global>,
-    /// From which event on letters are handed over.
-    pub from: u64,
-    /// How many letters were taken or given up.
-    pub earlier: u64,
-    /// How many of these are of the events from which on letters are handed over.
-    pub sent: u64,
-    ghost first: { (arc_value past).from ≡ from },
-}
 
 /// What earlier runs left of a lane, of which this was read. A refused growth is the only error.
 pub fn lane_state(

@@ -18,7 +18,7 @@ use Rattle.engine.specs.Lanes.{AreTold, HaveTaken, LaneParts, channels_on, joine
 use Rattle.journaled.specs.Wrapped.{Wrapped}
 use Rattle.run_devices.specs.Channels.{Opened, asked, numbered_from, opened}
 use Rattle.run_devices.specs.Done.{WritesLogged, WritesRun}
-use Rattle.earlier_runs.specs.declared.state.LaneState.{LaneState}
+use Rattle.earlier_runs.specs.declared.left.LaneState.{LaneState}
 use Rattle.earlier_runs.specs.State.{past_in}
 use Rattle.run_resumed.specs.Resumed.{HasHandedOn, HaveHandedOn, WritesResumedEnds, WritesResumedRun}
 

@@ -3,7 +3,7 @@ use Rattle.std.specs.Prelude.{◌≡◌, ℕ, suc, zero, List, [], ◌++◌, Opt
 use Rattle.due_model.specs.declared.config.Config.{Config}
 use Rattle.due_model.specs.declared.notice.Notice.{Notice}
 use Rattle.journaled.specs.Wrapped.{Wrapped}
-use Rattle.earlier_runs.specs.declared.state.LaneState.{LaneState}
+use Rattle.earlier_runs.specs.declared.left.LaneState.{LaneState}
 use Rattle.earlier_runs.specs.declared.tally.LaneTally.{LaneTally}
 use Rattle.earlier_runs.specs.State.{past_in}
 use Rattle.earlier_runs.specs.Tally.{IsTally, journal_line}

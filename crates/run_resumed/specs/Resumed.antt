@@ -24,7 +24,7 @@ use Rattle.run_devices.specs.Channels.{Opened}
 use Rattle.run_devices.specs.Done.{AreOpened}
 use Rattle.written.specs.Written.{Writes}
 use Rattle.earlier_runs.specs.Compared.{IsSame}
-use Rattle.earlier_runs.specs.declared.state.LaneState.{LaneState}
+use Rattle.earlier_runs.specs.declared.left.LaneState.{LaneState}
 use Rattle.earlier_runs.specs.State.{past_in}
 use Rattle.run_resumed.specs.JournalLines.{HasLines}
 
