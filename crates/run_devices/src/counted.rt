@@ -5,7 +5,6 @@ ghost use Rattle.std.specs.Prelude.{OnErr, OnOk};
 ghost use Rattle.channel.specs.Channels.{IsCounted, receipt_of};
 
 use crate::settings::pause_after;
-use crate::teller::{LaneTeller, Teller};
 use channel::letter::Letter;
 use channel::{Channel, Fault, Kind, Receipt};
 use command_output::OutputLine;
@@ -13,6 +12,7 @@ use due_model::config::LaneId;
 use due_model::notice::Notice;
 use engine::{Gate, Why};
 use progress::Counts;
+use run_records::teller::{LaneTeller, Teller};
 use std::alloc::{AllocError, Global};
 use std::sync::Arc;
 use std::time::Duration;

@@ -1,11 +1,11 @@
 //! What a run counts by, what says at once what fails, and who shows how far it is and writes its metrics.
 
 use crate::counted::CountingGate;
-use crate::run_log::RunLog;
-use crate::run_metrics::RunMetrics;
-use crate::teller::Teller;
-use crate::watcher::RunWatcher;
 use progress::Counts;
+use run_records::run_log::RunLog;
+use run_records::run_metrics::RunMetrics;
+use run_records::teller::Teller;
+use run_records::watcher::RunWatcher;
 use std::alloc::{AllocError, Global};
 use std::sync::Arc;
 use std::thread::Threads;

@@ -60,7 +60,7 @@ impl Teller {
     }
 
     /// Says a line.
-    pub(crate) fn say(&self, text: &str) {
+    pub fn say(&self, text: &str) {
         if self.is_quiet {
             return;
         }
@@ -80,7 +80,7 @@ impl Teller {
     }
 
     /// Writes a line of the report to the log, if there is one.
-    pub(crate) fn log_line(&self, line: &OutputLine<'_>) {
+    pub fn log_line(&self, line: &OutputLine<'_>) {
         if let Some(log) = &self.log {
             self.say_log(log.write(line));
         }
@@ -99,7 +99,7 @@ impl Teller {
     }
 
     /// How many lines of the log were lost.
-    pub(crate) fn lost(&self) -> u64 {
+    pub fn lost(&self) -> u64 {
         match &self.log {
             Some(log) => log.lost(),
             None => 0,
@@ -112,21 +112,21 @@ impl Teller {
     }
 
     /// Counts that a decider holds so many notices of a lane.
-    pub(crate) fn count_held(&self, decider: u8, lane: LaneId, notices: u64) {
+    pub fn count_held(&self, decider: u8, lane: LaneId, notices: u64) {
         if let Some(metrics) = &self.metrics {
             metrics.meters.hold(decider, lane, notices);
         }
     }
 
     /// Counts that a decider has put one of them into the lane's queue.
-    pub(crate) fn count_queued(&self, decider: u8, lane: LaneId) {
+    pub fn count_queued(&self, decider: u8, lane: LaneId) {
         if let Some(metrics) = &self.metrics {
             metrics.meters.queue(decider, lane);
         }
     }
 
     /// Counts a notice that a lane gives up, and writes it to the log, if there is one.
-    pub(crate) fn give_up(&self, notice: &Notice) {
+    pub fn give_up(&self, notice: &Notice) {
         if let Some(metrics) = &self.metrics {
             metrics.meters.give_up(notice.lane);
         }
@@ -137,7 +137,7 @@ impl Teller {
     }
 
     /// Writes the metrics, if there are any. Where their file can't be written, that is said once.
-    pub(crate) fn write_metrics(&self) {
+    pub fn write_metrics(&self) {
         if let Some(metrics) = &self.metrics {
             if !metrics.write(self.counts.progress().events) {
                 self.say("metrics: the file can't be written; the run goes on");
@@ -146,12 +146,12 @@ impl Teller {
     }
 
     /// The metrics, if there are any.
-    pub(crate) fn metrics(&self) -> Option<&RunMetrics> {
+    pub fn metrics(&self) -> Option<&RunMetrics> {
         self.metrics.as_ref()
     }
 
     /// Says that a line of the feed is refused, and writes it to the log, if there is one.
-    pub(crate) fn say_refused(&self, line: u64, fault: &str) {
+    pub fn say_refused(&self, line: u64, fault: &str) {
         if let Some(log) = &self.log {
             self.say_log(log.write_refused(line, fault));
         }
@@ -171,7 +171,7 @@ impl Teller {
     }
 
     /// Says once that memory ran out. It takes none.
-    pub(crate) fn say_wanting(&self) {
+    pub fn say_wanting(&self) {
         if self.is_quiet || self.was_wanting.swap(true, Ordering::SeqCst) {
             return;
         }
@@ -208,7 +208,7 @@ fn name_of(config: &Config, lane: LaneId) -> &str {
 
 /// What is said of the channel at a place, which is for the lane at that place: of those for that lane it comes after those at earlier
 /// places. A refused growth is the only error.
-pub(crate) fn teller_of(
+pub fn teller_of(
     alloc: Global,
     config: &Config,
     lanes: &[LaneId],
@@ -265,7 +265,7 @@ impl LaneTeller {
     }
 
     /// A letter was taken: that is counted, and written to the log, if there is one.
-    pub(crate) fn taken(&mut self, letter: &Letter) {
+    pub fn taken(&mut self, letter: &Letter) {
         self.failed = None;
         if let Some(metrics) = &self.teller.metrics {
             metrics.meters.take(self.lane);
@@ -277,7 +277,7 @@ impl LaneTeller {
     }
 
     /// A try of a letter has failed: where it was the device that did, that is counted.
-    pub(crate) fn failed(&mut self, letter: &Letter, fault: Fault) {
+    pub fn failed(&mut self, letter: &Letter, fault: Fault) {
         if fault == Fault::Device {
             if let Some(metrics) = &self.teller.metrics {
                 metrics.meters.fail(self.lane);
@@ -289,7 +289,7 @@ impl LaneTeller {
     }
 
     /// The channel is closed: where its last letter failed, that is said, and what becomes of it.
-    pub(crate) fn closed(&mut self) {
+    pub fn closed(&mut self) {
         if let Some(letter) = self.failed.take() {
             let _ = self.say_end(letter.as_str());
         }

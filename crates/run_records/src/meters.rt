@@ -87,7 +87,7 @@ pub(crate) struct Meters {
 
 impl Meters {
     /// Nothing is counted yet of these commands, of so many deciders and of a feed whose lines are noted there. A refused growth is the only error.
-    pub(crate) fn new(
+    pub fn new(
         rt: &HostRuntime,
         config: &Config,
         deciders: u8,
@@ -101,42 +101,42 @@ impl Meters {
     }
 
     /// A decider holds so many notices of a command.
-    pub(crate) fn hold(&self, decider: u8, lane: LaneId, notices: u64) {
+    pub fn hold(&self, decider: u8, lane: LaneId, notices: u64) {
         if let Some(meter) = self.lanes.get(usize::from(lane.0)) {
             meter.hold(decider, notices);
         }
     }
 
     /// A decider has put one of them into the command's queue.
-    pub(crate) fn queue(&self, decider: u8, lane: LaneId) {
+    pub fn queue(&self, decider: u8, lane: LaneId) {
         if let Some(meter) = self.lanes.get(usize::from(lane.0)) {
             meter.queue(decider);
         }
     }
 
     /// A channel of a command has taken a letter.
-    pub(crate) fn take(&self, lane: LaneId) {
+    pub fn take(&self, lane: LaneId) {
         if let Some(meter) = self.lanes.get(usize::from(lane.0)) {
             meter.taken.fetch_add(1, Ordering::SeqCst);
         }
     }
 
     /// A channel of a command has failed.
-    pub(crate) fn fail(&self, lane: LaneId) {
+    pub fn fail(&self, lane: LaneId) {
         if let Some(meter) = self.lanes.get(usize::from(lane.0)) {
             meter.failures.fetch_add(1, Ordering::SeqCst);
         }
     }
 
     /// A command gives a notice up.
-    pub(crate) fn give_up(&self, lane: LaneId) {
+    pub fn give_up(&self, lane: LaneId) {
         if let Some(meter) = self.lanes.get(usize::from(lane.0)) {
             meter.undelivered.fetch_add(1, Ordering::SeqCst);
         }
     }
 
     /// What is counted now, where so many events were decided. A refused growth is the only error.
-    pub(crate) fn metrics(&self, events: u64) -> Result<Metrics, AllocError> {
+    pub fn metrics(&self, events: u64) -> Result<Metrics, AllocError> {
         let alloc = self.rt.alloc();
         let (feed_age, clock_age) = self.times.ages();
         let mut commands = Vec::with_capacity(alloc, self.lanes.len())?;

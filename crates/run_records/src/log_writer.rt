@@ -13,7 +13,7 @@ pub struct LogWriter {
 
 impl LogWriter {
     /// A writer to the log of this teller.
-    pub(crate) fn new(teller: Arc<Teller, Global>) -> LogWriter {
+    pub fn new(teller: Arc<Teller, Global>) -> LogWriter {
         LogWriter { teller }
     }
 }

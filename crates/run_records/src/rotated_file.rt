@@ -23,7 +23,7 @@ struct OpenedFile {
 
 impl RotatedFile {
     /// The file at a path, which is made if it isn't there. `None`: it can't be opened.
-    pub(crate) fn open(rt: &HostRuntime, path: String) -> Option<RotatedFile> {
+    pub fn open(rt: &HostRuntime, path: String) -> Option<RotatedFile> {
         let opened = OpenedFile::at(rt, path.as_str())?;
         Some(RotatedFile {
             rt: *rt,

@@ -18,7 +18,7 @@ const PERIOD: u64 = 15;
 /// Where standard error is a terminal, a thread shows there what is counted, until lines of the report are to be written.
 /// Where that thread can't be started, only the end is shown. Another writes the metrics, if the run has any.
 #[derive(Drop)]
-pub(crate) struct RunWatcher<'a, T: Threads> {
+pub struct RunWatcher<'a, T: Threads> {
     rt: &'a HostRuntime,
     threads: &'a T,
     counts: Arc<Counts, Global>,
@@ -30,7 +30,7 @@ pub(crate) struct RunWatcher<'a, T: Threads> {
 
 impl<'a, T: Threads> RunWatcher<'a, T> {
     /// From now on it is shown what is counted.
-    pub(crate) fn new(
+    pub fn new(
         rt: &'a HostRuntime,
         threads: &'a T,
         counts: Arc<Counts, Global>,
@@ -48,7 +48,7 @@ impl<'a, T: Threads> RunWatcher<'a, T> {
 
     /// From now on the metrics of this teller are written, if it has any: at once, each 15 seconds, and when the run is over. Where no thread can be
     /// started, they are written then alone.
-    pub(crate) fn write_metrics(&mut self, teller: Arc<Teller, Global>) {
+    pub fn write_metrics(&mut self, teller: Arc<Teller, Global>) {
         if teller.is_metered() {
             self.written = start_writing(self.rt, self.threads, &teller);
             self.teller = Some(teller);
@@ -70,7 +70,7 @@ impl<'a, T: Threads> RunWatcher<'a, T> {
     }
 
     /// The run is over: what was counted last stays, on a line of its own, and in the metrics.
-    pub(crate) fn finish(mut self) {
+    pub fn finish(mut self) {
         self.make_way();
         ProgressLine::new(self.rt, self.rt.stderr().is_terminal()).finish_at(
             self.counts.progress(),
@@ -92,13 +92,13 @@ impl<T: Threads> Watcher for RunWatcher<'_, T> {
 
 /// Has the thread that shows what is counted end before lines are written. It doesn't wait for it.
 #[derive(Drop)]
-pub(crate) struct WayMaker {
+pub struct WayMaker {
     counts: Arc<Counts, Global>,
 }
 
 impl WayMaker {
     /// Of the thread that shows these.
-    pub(crate) fn new(counts: Arc<Counts, Global>) -> WayMaker {
+    pub fn new(counts: Arc<Counts, Global>) -> WayMaker {
         WayMaker { counts }
     }
 }

@@ -35,7 +35,7 @@ struct LogFile {
 impl RunLog {
     /// A log in the file at a path, which is made if it isn't there, and else appended to. `Ok(None)`: it can't be opened. A refused
     /// growth is the only error.
-    pub(crate) fn open(
+    pub fn open(
         rt: &HostRuntime,
         config: Arc<Config, Global>,
         path: &str,
@@ -56,7 +56,7 @@ impl RunLog {
     }
 
     /// Writes a line of the report. False: it is the first that is lost.
-    pub(crate) fn write(&self, line: &OutputLine<'_>) -> bool {
+    pub fn write(&self, line: &OutputLine<'_>) -> bool {
         let is_written = match self.lock() {
             Some(file) => {
                 let mut file = file;
@@ -105,7 +105,7 @@ impl RunLog {
     }
 
     /// How many lines were lost.
-    pub(crate) fn lost(&self) -> u64 {
+    pub fn lost(&self) -> u64 {
         self.lost.load(Ordering::SeqCst)
     }
 }

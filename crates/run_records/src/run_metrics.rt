@@ -57,7 +57,7 @@ pub fn metrics_at(
 
 impl RunMetrics {
     /// Writes what is counted, where so many events were decided. False: the file can't be written, for the first time.
-    pub(crate) fn write(&self, events: u64) -> bool {
+    pub fn write(&self, events: u64) -> bool {
         self.try_write(events).is_ok() || self.was_failing.swap(true, Ordering::SeqCst)
     }
 
