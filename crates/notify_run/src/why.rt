@@ -11,7 +11,7 @@ use crate::{status_at, status_of, status_of_words};
 use command_input::read_object_file;
 use command_line::WhyWords;
 use command_output::{AnyWriter, CommandFault, Ending};
-use due_model::config::Config;
+use due_model::config::{Choices, Config};
 use due_model::limits::LAST_MOMENT;
 use due_model::zone::Zone;
 use given_times::moment_given;
@@ -39,13 +39,17 @@ fn moment_or(zone: &Zone, text: Option<&str>, otherwise: u64) -> Option<u64>
 }
 
 /// The configuration of the object text in a file.
-fn config_in(rt: &HostRuntime, objects: &str) -> Result<Config, CommandFault>
+fn config_in(
+    rt: &HostRuntime,
+    choices: Choices,
+    objects: &str,
+) -> Result<Config, CommandFault>
     ensures { IfOk result IsAccepted }
 {
     let Ok(file) = File::open(rt, objects) else {
         return Err(CommandFault::Unreadable);
     };
-    read_object_file(rt.alloc(), AnyReader::new(file))
+    read_object_file(rt.alloc(), choices, AnyReader::new(file))
 }
 
 /// Whether the configuration has an object of that name.
@@ -84,8 +88,14 @@ fn do_why(
 }
 
 /// The same, where the object is known.
-fn status_of_known(rt: &HostRuntime, zone: &Zone, objects: &str, asked: Asked<'_>) -> ExitCode {
-    let config = match config_in(rt, objects) {
+fn status_of_known(
+    rt: &HostRuntime,
+    choices: Choices,
+    zone: &Zone,
+    objects: &str,
+    asked: Asked<'_>,
+) -> ExitCode {
+    let config = match config_in(rt, choices, objects) {
         Ok(config) => config,
         Err(fault) => return status_at(rt, objects, Err(fault)),
     };
@@ -100,6 +110,7 @@ fn status_of_known(rt: &HostRuntime, zone: &Zone, objects: &str, asked: Asked<'_
 /// Writes why messages about an object went to whom they did, and gives the exit status. Its times are looked at before anything else.
 pub(crate) fn status_of_why(
     rt: &HostRuntime,
+    choices: Choices,
     zone: &Zone,
     objects: &str,
     words: WhyWords<'_>,
@@ -119,5 +130,5 @@ pub(crate) fn status_of_why(
         to,
         form: row_form(rt, words.json),
     };
-    status_of_known(rt, zone, objects, asked)
+    status_of_known(rt, choices, zone, objects, asked)
 }

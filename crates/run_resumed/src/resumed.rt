@@ -57,7 +57,7 @@ pub fn do_resumed_run<'m, 'a, T: Threads + Wait + Clock + Sync, R: Input + Drop,
         (unwrap_or (option_map (λ given. given.now) words.entry.channels) [])
         in IfOk result (λ done. IsGoneOn ⟦<CountedChannel<OpenedChannel> as Channel>⟧.account
         ⟦<ResumedChannel as Channel>⟧.account ⟦<ResumedChannel as Channel>⟧.offered (λ cs. cs.items) (λ c. opened c.channel)
-        texts R.can_fail (is_none settings.entry.run.ahead) zone.now settings.entry.run.settings.tries done.channels.items
+        settings.entry.run.choices texts R.can_fail (is_none settings.entry.run.ahead) zone.now settings.entry.run.settings.tries done.channels.items
         (R.remaining feed) done.ending (W.contents writer.old) (W.contents writer.new)) }
     // What it fails with, and that the earlier checks went well.
     ensures fault { let texts = map (λ text. text.now)
@@ -87,7 +87,7 @@ pub fn do_logged_resumed_run<'m, 'a, T: Threads + Wait + Clock + Sync, R: Input 
         (unwrap_or (option_map (λ given. given.now) words.entry.channels) [])
         in IfOk result (λ done. IsLoggedOn ⟦<CountedChannel<OpenedChannel> as Channel>⟧.account
         ⟦<ResumedChannel as Channel>⟧.account ⟦<ResumedChannel as Channel>⟧.offered (λ cs. cs.items) (λ c. opened c.channel)
-        texts R.can_fail (is_none settings.entry.run.ahead) zone.now settings.entry.run.settings.tries done.channels.items
+        settings.entry.run.choices texts R.can_fail (is_none settings.entry.run.ahead) zone.now settings.entry.run.settings.tries done.channels.items
         (R.remaining feed) done.ending (W.contents writer.old) (W.contents writer.new)) }
     ensures fault { let texts = map (λ text. text.now)
         (unwrap_or (option_map (λ given. given.now) words.entry.channels) [])

@@ -7,7 +7,7 @@ ghost use Rattle.object_resolve.specs.Text.{IsTextOf};
 
 use crate::ends::{push_end, push_some, words_of};
 use crate::warned_forms::{push_of_blocks, push_of_text};
-use due_model::config::Config;
+use due_model::config::{Choices, Config};
 use due_model::zone::Zone;
 use faults_told::forms::{begin, push_json, push_member};
 use faults_told::located::Source;
@@ -442,7 +442,7 @@ pub fn check(alloc: Global, form: Form<'_, '_>, text: Vec<u8>) -> Result<Checked
         → IfOk result (λ checked. checked.faults ≡ 0) }
 {
     let kept = Vec::from_slice(alloc, text.as_slice())?;
-    match load(alloc, text) {
+    match load(alloc, Choices::own(), text) {
         Ok(config) => sound(alloc, form, kept.as_slice(), &config),
         Err(LoadFault::NoMemory) => Err(AllocError),
         Err(LoadFault::TooLarge) => too_large(alloc, form),
