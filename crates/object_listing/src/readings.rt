@@ -55,20 +55,20 @@ pub fn letters_at(values: &Values, kind: OptionKind, place: usize) -> OptionLett
     letters_or(values, kind, OptionLetters::ALL, place)
 }
 
-/// The same, and `other` where it has none, or the list has a word that is no option.
+/// The same, and `unlisted` where it has none, or the list has a word that is no option.
 pub fn letters_or(
     values: &Values,
     kind: OptionKind,
-    other: OptionLetters,
+    unlisted: OptionLetters,
     place: usize,
 ) -> OptionLetters
-    ensures { result ≡ letters_or values.now.blocks values.now.directive kind other place }
+    ensures { result ≡ letters_or values.now.blocks values.now.directive kind unlisted place }
 {
     let Some(text) = values.value(place) else {
-        return other;
+        return unlisted;
     };
     match options_in(kind, text) {
-        None => other,
+        None => unlisted,
         Some(letters) => letters,
     }
 }
