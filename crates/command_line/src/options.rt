@@ -40,7 +40,7 @@ pub(crate) fn flag_option<'a>(alloc: Global, name: &'a str, help: &'a str) -> Ar
 }
 
 /// Adds the options that say what zone local times are of.
-fn with_zone<'a>(alloc: Global, command: Command<'a>) -> Result<Command<'a>, AllocError>
+pub(crate) fn with_zone<'a>(alloc: Global, command: Command<'a>) -> Result<Command<'a>, AllocError>
     ensures words { IfOk result (λ command_with.
         app_of command_with ≡ with_zone (app_of command.entry)) }
 {
