@@ -10,7 +10,7 @@ LETTERS = {"DOWN": "d", "UNREACHABLE": "u", "WARNING": "w", "UNKNOWN": "u", "CRI
 MOST_AHEAD = 34_560_000
 # The fields in which either this project's rule decides or the daemon's.
 CHOICES = ("host_down", "host_repeats", "host_dep", "nobody", "told", "reset_wait", "delay", "dep_pending", "period_wait", "downtime_wait", "esc_other",
-           "at_results", "order")
+           "at_results", "order", "contact_none")
 # The daemon's order of filters.
 OF_DAEMON = ("Program", "Period", "Disabled", "Acknowledged", "Dependency", "Options", "NoProblem", "FirstDelay", "Flapping", "Downtime", "Interval", "HostDown",
              "ContactDisabled", "ContactPeriod", "ContactOptions", "ContactNotTold")
@@ -60,9 +60,8 @@ class Status:
 class Rules:
     """The events so far, and what each gave. Local times are those of the zone in the environment variable TZ."""
 
-    def __init__(self, configuration, choices=()):
-        """The choices are the fields in which the daemon's rule decides."""
-        self.configuration, self.choices = configuration, frozenset(choices)
+    def __init__(self, configuration):
+        self.configuration, self.choices = configuration, configuration.choices
         self.statuses = [Status() for _ in configuration.objects]
         self.moment, self.is_on, self.count = 0, True, 0
         self.lines, self.notices = [], []
