@@ -19,7 +19,11 @@ pub fn choices_of(as_nagios: bool, words: &[&str]) -> Option<Choices>
 fn at_first(as_nagios: bool) -> Choices
     ensures { result ≡ at_first as_nagios }
 {
-    if as_nagios { Choices::nagios() } else { Choices::own() }
+    if as_nagios {
+        Choices::nagios()
+    } else {
+        Choices::own()
+    }
 }
 
 /// The choices after words, one after another.

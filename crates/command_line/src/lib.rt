@@ -14,7 +14,7 @@ pub mod why;
 pub mod words;
 
 pub use asked::{command, request_of};
-pub use state::{FeedFault, StateWords};
 pub use check::CheckWords;
+pub use state::{FeedFault, StateWords};
 pub use why::WhyWords;
 pub use words::{FeedWords, LogWords, Request, ShownWords, WhoWords, ZoneWords};

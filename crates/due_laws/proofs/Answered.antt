@@ -52,7 +52,6 @@ object_filter_by false c zone v a f is =
     ∷ (is_of_problem a.kind && v.host_problem, why.HostDown)
     ∷ [])
     (refl, (refl, (refl, (refl, (refl, (refl, (refl, (refl, (refl, (refl, (refl, (refl, tt)))))))))))) f is
-
 object_filter_by true c zone v a f is =
     named false
     ((not v.program, why.Program)

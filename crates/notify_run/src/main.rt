@@ -24,8 +24,8 @@ mod why;
 mod zones;
 
 use check::status_of_check;
-use clap::error::ErrorKind;
 use choice_words::choices_of;
+use clap::error::ErrorKind;
 use command_line::{Request, ShownWords, ZoneWords, command, request_of};
 use command_output::{AnyWriter, CommandFault, Ending, exit_status};
 use diff::status_of_diff;

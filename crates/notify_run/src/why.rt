@@ -39,11 +39,7 @@ fn moment_or(zone: &Zone, text: Option<&str>, otherwise: u64) -> Option<u64>
 }
 
 /// The configuration of the object text in a file.
-fn config_in(
-    rt: &HostRuntime,
-    choices: Choices,
-    objects: &str,
-) -> Result<Config, CommandFault>
+fn config_in(rt: &HostRuntime, choices: Choices, objects: &str) -> Result<Config, CommandFault>
     ensures { IfOk result IsAccepted }
 {
     let Ok(file) = File::open(rt, objects) else {

@@ -74,7 +74,11 @@ pub(crate) fn zone_asked(rt: &HostRuntime, words: ZoneWords<'_, '_>) -> Result<Z
 }
 
 /// Says on standard error why there is no zone, and gives the exit status.
-pub(crate) fn status_of_zone(rt: &HostRuntime, words: ZoneWords<'_, '_>, fault: ZoneFault) -> ExitCode
+pub(crate) fn status_of_zone(
+    rt: &HostRuntime,
+    words: ZoneWords<'_, '_>,
+    fault: ZoneFault,
+) -> ExitCode
     ensures { exit_status result ≡ zone_fault_status fault }
 {
     match fault {

@@ -60,9 +60,15 @@ impl<'a> ContactValues<'a> {
             hosts: self
                 .hosts
                 .rights_at(alloc, daemons, of_hosts, periods, commands, lanes, place)?,
-            services: self
-                .services
-                .rights_at(alloc, daemons, of_services, periods, commands, lanes, place)?,
+            services: self.services.rights_at(
+                alloc,
+                daemons,
+                of_services,
+                periods,
+                commands,
+                lanes,
+                place,
+            )?,
         })
     }
 }

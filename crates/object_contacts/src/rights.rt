@@ -87,7 +87,11 @@ fn option_kind(kind: RightsKind) -> OptionKind
 fn letters_unlisted(daemons: bool) -> OptionLetters
     ensures { result ≡ letters_unlisted daemons }
 {
-    if daemons { OptionLetters::NONE } else { OptionLetters::ALL }
+    if daemons {
+        OptionLetters::NONE
+    } else {
+        OptionLetters::ALL
+    }
 }
 
 /// The lane of a command, where `lanes` are the commands of the lanes.

@@ -115,11 +115,7 @@ fn resolve_objects<'a>(
 }
 
 /// The same, where they are yet to be found.
-fn resolve_all(
-    alloc: Global,
-    choices: Choices,
-    templates: &Templates,
-) -> Result<Config, LoadFault>
+fn resolve_all(alloc: Global, choices: Choices, templates: &Templates) -> Result<Config, LoadFault>
     ensures config { IfOk result (IsFitting templates.now) }
     ensures choices { IfOk result (λ config. config.choices ≡ choices) }
     ensures fault { IfErr result (IsAmong (IsUnfit templates.now)) }

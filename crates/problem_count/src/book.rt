@@ -165,7 +165,11 @@ impl Book {
         requires { t ≤ last_moment }
         ensures { result ≡ delayed_from anew t self }
     {
-        if anew { Book { began: t, ..self } } else { self }
+        if anew {
+            Book { began: t, ..self }
+        } else {
+            self
+        }
     }
 
     /// The book in this hard state, of which nothing is due, and of which the wait was ended or not.

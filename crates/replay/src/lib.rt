@@ -37,14 +37,7 @@ pub fn replay<R: Input + Drop, W: Sink>(
     ensures sure { W.can_fail ≡ false → ¬ IsErrOf result CommandFault.Output }
 {
     let zone = Zone::Utc;
-    replay_in(
-        alloc,
-        Choices::own(),
-        &zone,
-        reader,
-        writer,
-        &mut Unwatched,
-    )
+    replay_in(alloc, Choices::own(), &zone, reader, writer, &mut Unwatched)
 }
 
 /// The same, by these choices, for local times of a zone. A watcher is told how far it is whenever the feed may be waited for: how many events

@@ -61,7 +61,5 @@ pub fn show_files<O: Input + Drop, R: Input + Drop, W: Sink, P: Watcher>(
         (W.contents writer.old) (W.contents writer.new)))) }
     ensures sure { W.can_fail ≡ false → ¬ IsErrOf result CommandFault.Output }
 {
-    tell_files(
-        alloc, choices, zone, objects, feed, shown, writer, watcher,
-    )
+    tell_files(alloc, choices, zone, objects, feed, shown, writer, watcher)
 }

@@ -73,7 +73,5 @@ pub fn pretty_files<O: Input + Drop, R: Input + Drop, W: Sink, P: Watcher>(
     ensures sure { W.can_fail ≡ false → ¬ IsErrOf result CommandFault.Output }
 {
     let pretty = PrettyLines::new(alloc, wanted.picks, wanted.coloured)?;
-    tell_files(
-        alloc, choices, zone, objects, feed, pretty, writer, watcher,
-    )
+    tell_files(alloc, choices, zone, objects, feed, pretty, writer, watcher)
 }

@@ -83,12 +83,7 @@ pub fn do_logged_run<'m, 'a, T: Threads + Wait + Clock + Sync, R: Input + Drop, 
         (unwrap_or (option_map (λ given. given.now) words.entry.channels) [])
         in IfErr result (RunFails texts) }
 {
-    let (config, lanes, channels) = open_words(
-        rt,
-        words.objects,
-        words.channels,
-        settings,
-    )?;
+    let (config, lanes, channels) = open_words(rt, words.objects, words.channels, settings)?;
     let done = log_through(
         rt,
         threads,
