@@ -111,11 +111,11 @@ still c zone object s t was released outcomes ended =
 
 -- of which the acknowledgement is taken back at this event or isn't
 module _ (c : Config) (zone : Zone) (o : ℕ) (object : Object) (m : ℕ) (past : List Event) where
-  from : (takes : Bool) → BookValues
+  abbrev from : (takes : Bool) → BookValues
   from takes = within_by c zone object false false (not (same_state (hard o past) (hard o past))) (hard o past) (max (moment past) m) (delayed c o past)
       (released_by false takes (max (moment past) m) (released_after c zone o object past)) (problem c zone o object past) (ended_after c zone o object past)
 
-  at_kind : EventKind → Event
+  abbrev at_kind : EventKind → Event
   at_kind k = record { moment = m; kind = k }
 
   kept_by_kind : (k : EventKind) → is_hard_of o k ≡ false → takes_back o (at_kind k) past ≡ false → from false ≡ book_within c zone o object (at_kind k) past
