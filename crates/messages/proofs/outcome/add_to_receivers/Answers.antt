@@ -16,7 +16,7 @@ returns-in_err-passes-clause-left c =
 pub loop-contact-preserved : goal.loop-contact-preserved
 loop-contact-preserved c = record {
   added = search rules;
-  passes = c.either.ensures
+  passes = c.either-one_passes.ensures
       ∙ ap (λ b. b || c.in_ok-passes.passes) c.loop-contact.invariant.passes
       ∙ ap (λ b. list_any (λ contact. message_passes c.args.config.now c.args.message.now contact.0) (take c.loop-contact.contact-index c.args.receivers.now) || b) c.in_ok-passes.ensures.passes
       ∙ sym (any_more (λ (contact : ContactId). message_passes c.args.config.now c.args.message.now contact.0) c.args.receivers.now c.loop-contact.contact-index (record { 0 = 0 }) c.loop-contact-test.true);
