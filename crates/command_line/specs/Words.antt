@@ -100,11 +100,12 @@ TraceLacks options = (deciders standbys : ℕ) → HoldsNumber options (codes "d
     → HoldsNumber options (codes "standbys") standbys → standbys < max_channels
     → HoldFitting options deciders → ⊥
 
--- the file that the options of `run` hold of a log, whether its lines are folded, and the file that they hold of metrics
+-- the file that the options of `run` hold of a log, whether its lines are folded, the file that they hold of metrics, and whether its lines are JSON
 pub record IsLogOf (options : Found) (words : LogWords) : Type 0 where
   pub file : option_copied words.file ≡ first_value options (codes "log")
   pub fold : IsFlag options (codes "fold") words.fold
   pub metrics : option_copied words.metrics ≡ first_value options (codes "metrics")
+  pub json : IsFlag options (codes "json") words.json
 
 -- the seconds that the options of `run` hold
 pub record HoldTimes (options : Found) (times : TryTimes) : Type 0 where
@@ -336,7 +337,8 @@ with_feed_options app =
 -- three say where a run writes its report as it goes, that lines of it are folded, and where it writes its metrics
 abbrev pub with_log_options : App → App
 with_log_options app =
-    with_rule (with_rule (with_rule app (text_option (codes "log"))) (flag_option (codes "fold"))) (text_option (codes "metrics"))
+    with_rule (with_rule (with_rule (with_rule app (text_option (codes "log"))) (flag_option (codes "fold"))) (text_option (codes "metrics")))
+    (flag_option (codes "json"))
 
 -- `run` has the file of the object text, which must be given, how many deciders there are, how many notices a lane's queue holds,
 -- these, how far ahead a stamp may be, where its report and its metrics go, `--quiet`, where the feed is read from, what is kept, and the channel words

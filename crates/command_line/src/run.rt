@@ -45,8 +45,8 @@ as they happen, each as soon as it is known, and standard output gets the G and 
 alone; a file that is moved away is opened anew. With --fold an S line that only repeats the
 one before of its object isn't written, but the last before another one is, with how many
 there were. With --metrics that file is replaced each 15 seconds, and at the end, by numbers
-of the run, in the text format that Prometheus's node exporter reads from a folder. The lines
-are
+of the run, in the text format that Prometheus's node exporter reads from a folder. With
+--json each line on standard output is an object of JSON. The lines are
 
   R;line;fault                                             a refused line of the feed
   S;event;moment;object;kind;state;filter                  what a filter of the object stopped
@@ -186,7 +186,12 @@ fn with_log_options<'a>(alloc: Global, command: Command<'a>) -> Result<Command<'
         "FILE",
         "Writes numbers of the run to this file each 15 seconds, for Prometheus",
     );
-    command.arg(log)?.arg(fold)?.arg(metrics)
+    let json = flag_option(
+        alloc,
+        "json",
+        "Writes each line on standard output as an object of JSON",
+    );
+    command.arg(log)?.arg(fold)?.arg(metrics)?.arg(json)
 }
 
 /// The command `run`, its options and its words.
@@ -238,6 +243,7 @@ fn log_words<'a>(options: &ArgMatches<'a>) -> LogWords<'a>
         file: options.get_str("log"),
         fold: options.get_flag("fold"),
         metrics: options.get_str("metrics"),
+        json: options.get_flag("json"),
     }
 }
 

@@ -115,6 +115,8 @@ pub struct LogWords<'a> {
     pub fold: bool,
     /// The file of the metrics, if there is one.
     pub metrics: Option<&'a str>,
+    /// Whether each line of standard output is to be an object of JSON.
+    pub json: bool,
 }
 
 /// What a command line says of where the feed of a run is read from.

@@ -10,6 +10,7 @@ use command_line::{FeedWords, LogWords};
 use command_output::{AnyWriter, Ending};
 use due_model::zone::Zone;
 use feed_file::{Feed, FeedFile, FeedWays};
+use json_report::{JsonWriter, ReportWriter};
 use run_devices::{
     FeedTimes, LogPlace, LoggedWords, MeteredFeed, MetricsPlace, RunFault, RunSettings, RunWords,
     do_logged_run, do_run,
@@ -20,7 +21,7 @@ use run_resumed::{
 use std::alloc::{AllocError, Global};
 use std::io::{self, Eprint};
 use std::process::ExitCode;
-use std::rt::Stdin;
+use std::rt::{Stdin, Stdout};
 use std::sync::{Arc, Wait};
 use std::thread::Threads;
 use std::time::Clock;
@@ -28,6 +29,19 @@ use text_lines::AnyReader;
 
 /// A feed as a run reads it.
 type RunFeed = MeteredFeed<AnyReader<Feed<Stdin>>>;
+
+/// Where a run writes its report.
+type RunWriter<'a> = AnyWriter<ReportWriter<'a, Stdout>>;
+
+/// Standard output, for the report as it is or as objects of JSON.
+fn writer_of<'a>(rt: &HostRuntime, zone: &'a Zone, is_json: bool) -> RunWriter<'a> {
+    let output = rt.stdout();
+    AnyWriter::new(if is_json {
+        ReportWriter::Json(JsonWriter::new(rt.alloc(), zone, output))
+    } else {
+        ReportWriter::Plain(output)
+    })
+}
 
 /// The feed of a run: standard input, or the file that is named, from its start.
 fn feed_of(rt: &HostRuntime, feed: FeedWords<'_>, is_quiet: bool) -> io::Result<Feed<Stdin>> {
@@ -88,30 +102,47 @@ pub(crate) fn status_of_feed<T: Threads + Wait + Clock + Sync>(
         channels,
         metrics,
     };
-    if let Some(folder) = feed.state.folder {
-        let settings = ResumedSettings {
-            run: settings,
-            state: StateSettings {
-                folder,
-                feed: feed.file.unwrap_or(""),
-                drops_doubt: feed.state.drops_doubt(),
-                from_now: feed.state.from_now,
-            },
-        };
-        return status_of_resumed(rt, threads, zone, words, settings, log, opened);
+    status_of_opened(rt, threads, zone, words, settings, log, feed, opened)
+}
+
+/// How a run goes on where earlier ones have ended, if it does.
+fn resumed_settings<'a>(run: RunSettings, feed: FeedWords<'a>) -> Option<ResumedSettings<'a>> {
+    let state = StateSettings {
+        folder: feed.state.folder?,
+        feed: feed.file.unwrap_or(""),
+        drops_doubt: feed.state.drops_doubt(),
+        from_now: feed.state.from_now,
+    };
+    Some(ResumedSettings { run, state })
+}
+
+/// Does a run of a feed that was opened, and gives its exit status.
+fn status_of_opened<T: Threads + Wait + Clock + Sync>(
+    rt: &HostRuntime,
+    threads: &T,
+    zone: &Zone,
+    words: RunWords<'_, '_>,
+    settings: RunSettings,
+    log: LogWords<'_>,
+    feed: FeedWords<'_>,
+    opened: RunFeed,
+) -> ExitCode {
+    let mut writer = writer_of(rt, zone, log.json);
+    if let Some(settings) = resumed_settings(settings, feed) {
+        return status_of_resumed(rt, threads, zone, words, settings, log, opened, &mut writer);
     }
     match log.file {
         Some(file) => {
             let fold = log.fold;
             let words = LoggedWords {
-                objects,
-                channels,
+                objects: words.objects,
+                channels: words.channels,
                 log: LogPlace { file, fold },
-                metrics,
+                metrics: words.metrics,
             };
-            status_of_logged(rt, threads, zone, words, settings, opened)
+            status_of_logged(rt, threads, zone, words, settings, opened, &mut writer)
         }
-        None => status_of_new(rt, threads, zone, words, settings, opened),
+        None => status_of_new(rt, threads, zone, words, settings, opened, &mut writer),
     }
 }
 
@@ -123,9 +154,9 @@ fn status_of_logged<T: Threads + Wait + Clock + Sync>(
     words: LoggedWords<'_, '_>,
     settings: RunSettings,
     feed: RunFeed,
+    writer: &mut RunWriter<'_>,
 ) -> ExitCode {
-    let mut writer = AnyWriter::new(rt.stdout());
-    let outcome = do_logged_run(rt, threads, zone, words, settings, feed, &mut writer);
+    let outcome = do_logged_run(rt, threads, zone, words, settings, feed, writer);
     let outcome = outcome.map(|done| done.ending);
     status_of_done(rt, words.objects, words.channels, settings, outcome)
 }
@@ -138,9 +169,9 @@ fn status_of_new<T: Threads + Wait + Clock + Sync>(
     words: RunWords<'_, '_>,
     settings: RunSettings,
     feed: RunFeed,
+    writer: &mut RunWriter<'_>,
 ) -> ExitCode {
-    let mut writer = AnyWriter::new(rt.stdout());
-    let outcome = do_run(rt, threads, zone, words, settings, feed, &mut writer);
+    let outcome = do_run(rt, threads, zone, words, settings, feed, writer);
     let outcome = outcome.map(|done| done.ending);
     status_of_done(rt, words.objects, words.channels, settings, outcome)
 }
@@ -169,15 +200,15 @@ fn status_of_resumed<T: Threads + Wait + Clock + Sync>(
     settings: ResumedSettings<'_>,
     log: LogWords<'_>,
     feed: RunFeed,
+    writer: &mut RunWriter<'_>,
 ) -> ExitCode {
-    let mut writer = AnyWriter::new(rt.stdout());
     let outcome = match log.file {
         Some(file) => {
             let fold = log.fold;
             let log = LogPlace { file, fold };
-            do_logged_resumed_run(rt, threads, zone, words, settings, log, feed, &mut writer)
+            do_logged_resumed_run(rt, threads, zone, words, settings, log, feed, writer)
         }
-        None => do_resumed_run(rt, threads, zone, words, settings, feed, &mut writer),
+        None => do_resumed_run(rt, threads, zone, words, settings, feed, writer),
     };
     let fault = match &outcome {
         Err(ResumeFault::Run(fault)) => Some(*fault),
