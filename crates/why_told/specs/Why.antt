@@ -46,10 +46,10 @@ ending_text asked c zone before current =
 -- ---- what a filter of the object stops
 
 -- its filters, and the one that stopped it
-unfoldable pub stop_rows : (coloured : Bool) → Config → Zone → Suppression → List ℕ
-stop_rows coloured c zone s =
+unfoldable pub stop_rows : (coloured : Bool) → (places : List (List ℕ)) → Config → Zone → Suppression → List ℕ
+stop_rows coloured places c zone s =
     head_text zone s.moment s.kind s.state 0 ++ passed_text c s.object.0 (place_of s.filter)
-    ++ stopped_text coloured c s
+    ++ stopped_text coloured places c s
 
 -- as JSON: its filters, and the line of the report
 unfoldable pub stop_json : Config → Zone → Suppression → List ℕ
@@ -57,9 +57,10 @@ stop_json c zone s =
     tried_json c s.event s.object.0 (place_of s.filter) (Some s.filter)
     ++ json_text c zone (Decided (Withheld s))
 
-abbrev pub new_stop_text : RowForm → Config → Zone → Suppression → List ℕ
-new_stop_text form c zone s =
-    if is_json form then stop_json c zone s else stop_rows (is_coloured form) c zone s
+abbrev pub new_stop_text : Asked → Config → Zone → Suppression → List ℕ
+new_stop_text asked c zone s =
+    if is_json asked.form then stop_json c zone s
+    else stop_rows (is_coloured asked.form) asked.places.now c zone s
 
 -- one that goes on with the row that is open: its number alone is written of it, when the row ends
 abbrev pub again_text : RowForm → Config → Zone → Suppression → List ℕ
@@ -68,7 +69,7 @@ again_text form c zone s = if is_json form then stop_json c zone s else []
 abbrev pub stop_text : Asked → Config → Zone → Open → Suppression → List ℕ
 stop_text asked c zone current s =
     if goes_on current s then again_text asked.form c zone s
-    else close_text asked c zone current ++ new_stop_text asked.form c zone s
+    else close_text asked c zone current ++ new_stop_text asked c zone s
 
 -- ---- an attempt that goes out
 
