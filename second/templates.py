@@ -128,6 +128,10 @@ class Site:
         """What `ask` finds of the first template of which it finds something."""
         return next((found for found in map(ask, self.above(place)) if found is not None), None)
 
+    def giver(self, place, name):
+        """The block that gives what this one has: itself, or a template; none where nothing gives it."""
+        return place if self.own(place, name) is not None else self.first_above(place, lambda other: self.giver(other, name))
+
     def value(self, place, name):
         own = self.own(place, name)
         return own if own is not None else self.first_above(place, lambda other: self.value(other, name))

@@ -1,6 +1,5 @@
 -- Where the values stand in the object text that filters go by.
-use Rattle.std.specs.Prelude.{ℕ, ◌+◌, ◌*◌, List, [], ◌∷◌, ◌++◌, codes, slice_get}
-use Rattle.std.specs.Option.{option_map_or}
+use Rattle.std.specs.Prelude.{ℕ, ◌+◌, ◌*◌, List, [], ◌∷◌, ◌++◌, codes, slice_index_or}
 use Rattle.due_model.specs.declared.notice.Filter.{Filter}
 use Rattle.due_model.specs.declared.notice.Filter.TheVariants.{ContactOptions, ContactPeriod}
 
@@ -19,5 +18,9 @@ abbrev pub shown_place : List ℕ → List ℕ
 shown_place [] = []
 shown_place (byte ∷ bytes) = codes "  " ++ (byte ∷ bytes)
 
+-- the place of that number; empty where there is none
+abbrev pub place_at : List (List ℕ) → (i : ℕ) → List ℕ
+place_at places i = slice_index_or places i []
+
 abbrev pub place_text : List (List ℕ) → (i : ℕ) → List ℕ
-place_text places i = option_map_or shown_place (slice_get places i) []
+place_text places i = shown_place (place_at places i)

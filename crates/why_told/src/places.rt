@@ -1,7 +1,7 @@
 //! Where the values stand in the object text that filters go by.
 
 ghost use Rattle.std.specs.Prelude.{◌≡◌, ◌++◌, map, OnOk};
-ghost use Rattle.why_told.specs.Places.{contact_place, place_text, right_place, shown_place};
+ghost use Rattle.why_told.specs.Places.{contact_place, place_at, place_text, right_place, shown_place};
 
 use due_model::config::ContactId;
 use due_model::notice::Filter;
@@ -31,14 +31,22 @@ impl Places {
         Places { texts }
     }
 
+    /// That of a number; empty where there is none.
+    pub(crate) fn place(&self, number: usize) -> &[u8]
+        ensures { result.now ≡ place_at self.now number }
+    {
+        if number < self.texts.len() {
+            self.texts[number].as_slice()
+        } else {
+            &[]
+        }
+    }
+
     /// Adds that of a number, behind a value, if it is known. A refused growth is the only error.
     pub(crate) fn push(&self, text: &mut Vec<u8>, number: usize) -> Result<(), AllocError>
         ensures { OnOk result (text.new.items ≡ text.old.items ++ place_text self.now number) }
     {
-        match self.texts.as_slice().get(number) {
-            Some(place) => push_place(text, place.as_slice()),
-            None => Ok(()),
-        }
+        push_place(text, self.place(number))
     }
 }
 

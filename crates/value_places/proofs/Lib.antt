@@ -1,0 +1,4 @@
+mod LineLemmas
+mod AddLemmas
+mod PlaceLemmas
+mod SoundLemmas
