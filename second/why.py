@@ -40,9 +40,9 @@ class Reasons:
         return name + {"ContactOptions": f" notification_options{self.letters(rights.options)}", "ContactPeriod": f" notification_period {self.period(rights.period)}"}.get(name, "")
 
     def line(self, places, directive):
-        """The line of the block that gives the directive to the first of the places that has it; none where none has."""
-        givers = [self.configuration.giver(place, directive) for place in places]
-        return next((f"{self.file}:{self.configuration.blocks[giver].line}" for giver in givers if giver is not None), None)
+        """The line that gives the directive to the first of the places that has it; none where none has."""
+        lines = [self.configuration.line(place, directive) for place in places]
+        return next((f"{self.file}:{line}" for line in lines if line is not None), None)
 
     def place(self, name):
         """Where the value stands that a filter of the object goes by, if it is known."""
