@@ -1,9 +1,14 @@
 -- Blocks that are sound aren't refused.
-use Rattle.std.proofs.Common.{◌≡◌, ℕ, Bool, true, false, List, refl, sym, ap, ◌∙◌}
+use Rattle.std.proofs.Common.{◌≡◌, ℕ, Bool, true, false, List, Result, Ok, Err, is_ok, refl, sym, ap, subst, ◌∙◌}
+use Rattle.std.proofs.lemmas.Bool.{true≢false}
 use Rattle.std.proofs.lemmas.Option.{none-some}
 use Rattle.object_inheritance.specs.Faults as templates
 use Rattle.object_inheritance.specs.declared.templates.TemplateFault.{TemplateFault}
+use Rattle.object_reader.specs.Blocks.{Gives}
 use Rattle.object_reader.specs.declared.block.Block.{Block}
+use Rattle.object_reader.specs.declared.fault.LineFault.{LineFault}
+use Rattle.object_reader.specs.declared.fault.ReadFault.{ReadFault}
+use Rattle.object_reader.specs.declared.fault.ReadFault.TheVariants as read
 use Rattle.object_services.specs.Limits.{IsFirstOver}
 use Rattle.value_places.specs.Places.{AreSound}
 
@@ -21,3 +26,20 @@ sound-templates blocks line fault sound first =
 
 pub sound-limit : (blocks : List Block) (place line : ℕ) → AreSound blocks → IsFirstOver blocks place line → ⊥
 sound-limit blocks place line sound over = sound.within place over.passes
+
+-- ---- what the reading of a text says of others
+
+-- blocks that a text gives are those that were read
+pub read-same : (r : Result (List Block) ReadFault) (blocks others : List Block) → r ≡ Ok blocks → Gives r (Ok others) → blocks ≡ others
+read-same r blocks others is gives = sym (ap blocks_in (subst (λ given. Gives given (Ok others)) is gives))
+  where
+    blocks_in : Result (List Block) ReadFault → List Block
+    blocks_in (Ok bs) = bs
+    blocks_in (Err fault) = others
+
+-- a text of blocks has no fault
+pub no-large : (others : List Block) → Gives (Err read.TooLarge) (Ok others) → ⊥
+no-large others gives = true≢false (ap is_ok gives)
+
+pub no-line : (others : List Block) (line : ℕ) (fault : LineFault) → Gives (Err (read.AtLine line fault)) (Ok others) → ⊥
+no-line others line fault gives = true≢false (ap is_ok gives)

@@ -62,15 +62,13 @@ pub(crate) fn line_of(lines: &[&[u8]], define: u64, name: &[u8]) -> u64
     ensures { IsLineOf (texts lines.now) define name.now result }
 {
     let mut number = define;
-    let mut at = define as usize;
-    while at < lines.len() {
+    for at in define as usize..lines.len() {
         if begins_with(lines[at], b"define") {
             return number;
         }
         if begins_with(lines[at], name) && !goes_on(lines[at.saturating_sub(1)]) {
             number = at as u64 + 1;
         }
-        at += 1;
     }
     number
 }

@@ -3,5 +3,5 @@ use Rattle.value_places.specs.Lines.{IsSoFar}
 use Rattle.value_places.proofs.lines.line_of.Given as goal
 
 -- The lines so far.
-abbrev pub invariant-loop-number : goal.invariant-loop-number
-invariant-loop-number l = IsSoFar (texts l.lines) l.define l.name l.at l.number
+abbrev pub invariant-loop-at : goal.invariant-loop-at
+invariant-loop-at l = IsSoFar (texts l.lines) l.define l.name l.at l.number
