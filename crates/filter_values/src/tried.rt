@@ -93,7 +93,8 @@ fn push_stop(
         (text.new.items ≡ text.old.items ++ stop_json config.now object.0 filter) }
 {
     text.extend_from_slice(b",\"stopped\":")?;
-    push_filter_string(alloc, text, config, object, filter)
+    push_filter_string(alloc, text, config, object, filter)?;
+    Ok(())
 }
 
 /// Adds the one that stopped it, null where none did.
