@@ -7,7 +7,7 @@ ghost use Rattle.due_model.specs.Limits.{last_moment};
 ghost use Rattle.notify_run.specs.Times.{IsBadSpan, IsNoMoment};
 
 use crate::pretty::row_form;
-use crate::{status_of, status_of_words};
+use crate::{status_at, status_of, status_of_words};
 use command_input::read_object_file;
 use command_line::WhyWords;
 use command_output::{AnyWriter, CommandFault, Ending};
@@ -87,7 +87,7 @@ fn do_why(
 fn status_of_known(rt: &HostRuntime, zone: &Zone, objects: &str, asked: Asked<'_>) -> ExitCode {
     let config = match config_in(rt, objects) {
         Ok(config) => config,
-        Err(fault) => return status_of(rt, Err(fault)),
+        Err(fault) => return status_at(rt, objects, Err(fault)),
     };
     if !is_known(&config, asked.object) {
         let name = asked.object;

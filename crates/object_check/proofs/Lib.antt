@@ -1,0 +1,4 @@
+pub mod MisfitLemmas
+pub mod DateLemmas
+pub mod MarkLemmas
+pub mod AnsweredLemmas

@@ -1,0 +1,5 @@
+use Rattle.std.proofs.Common.{refl}
+use Rattle.object_check.proofs.rows.name_rows.Goals as goal
+
+pub returns : goal.returns
+returns c = refl

@@ -1,0 +1,4 @@
+pub mod Misfits
+pub mod Rows
+pub mod Marks
+pub mod Answered

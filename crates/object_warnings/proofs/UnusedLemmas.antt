@@ -1,0 +1,77 @@
+-- Names, block by block and directive by directive.
+use Rattle.std.proofs.Common.{◌≡◌, ℕ, ◌+◌, ◌<◌, Bool, List, [], ◌∷◌, ◌++◌, append_assoc, append-nil, length, map, take, get_or, Bor, sym, ap, ap₂, ◌∙◌}
+use Rattle.std.specs.Prelude.{codes}
+use Rattle.std.specs.List.{flat_map}
+use Rattle.std.proofs.lemmas.List.{map-append, take_more}
+use Rattle.std.proofs.lemmas.Grind.{flat_map-append}
+use Rattle.object_check.specs.Rows.{Asked, name_rows}
+use Rattle.object_groups.specs.Objects.{ObjectsOf, names_in, objects_in}
+use Rattle.object_inheritance.specs.Columns.{Column}
+use Rattle.object_names.specs.Named.{block_kind}
+use Rattle.object_names.specs.declared.named.NamedKind.{NamedKind}
+use Rattle.object_reader.specs.declared.block.Block.{Block}
+use Rattle.object_reader.specs.declared.block.BlockKind.{BlockKind}
+use Rattle.object_values.specs.Values.{texts}
+use Rattle.object_warnings.specs.Unused.{is_unused, is_unused_at, named_by, named_in}
+
+-- what one more element gives
+pub flat-more : {X A : Type 0} (f : X → List A) (xs : List X) (i : ℕ) (d : X) → i < length xs → flat_map f (take (i + 1) xs) ≡ flat_map f (take i xs) ++ f (get_or xs i d)
+flat-more {X} {A} f xs i d within =
+    ap (flat_map f) (take_more xs i d within)
+    ∙ flat_map-append f (take i xs) (get_or xs i d ∷ [])
+    ∙ ap (λ (more : List A). flat_map f (take i xs) ++ more) (append-nil (f (get_or xs i d)))
+
+-- the same of what is made of each element
+pub flat-map-more : {W X A : Type 0} (f : X → List A) (g : W → X) (xs : List W) (i : ℕ) (d : W) → i < length xs
+    → flat_map f (map g (take (i + 1) xs)) ≡ flat_map f (map g (take i xs)) ++ f (g (get_or xs i d))
+flat-map-more {W} {X} {A} f g xs i d within =
+    ap (λ (ys : List W). flat_map f (map g ys)) (take_more xs i d within)
+    ∙ ap (flat_map f) (map-append g (take i xs) (get_or xs i d ∷ []))
+    ∙ flat_map-append f (map g (take i xs)) (g (get_or xs i d) ∷ [])
+    ∙ ap (λ (more : List A). flat_map f (map g (take i xs)) ++ more) (append-nil (f (g (get_or xs i d))))
+
+-- names that are added after those of the rows so far
+pub rows-more : {W X : Type 0} (f : X → List (List ℕ)) (g : W → X) (rows : List W) (i : ℕ) (d : W) (first old new more : List (Bor (List ℕ)))
+    → i < length rows → texts old ≡ texts first ++ flat_map f (map g (take i rows)) → new ≡ old ++ more → texts more ≡ f (g (get_or rows i d))
+    → texts new ≡ texts first ++ flat_map f (map g (take (i + 1) rows))
+rows-more f g rows i d first old new more within before adds are =
+    ap texts adds ∙ map-append (λ text. text.now) old more
+    ∙ ap (λ (xs : List (List ℕ)). xs ++ texts more) before
+    ∙ append_assoc (texts first) (flat_map f (map g (take i rows))) (texts more)
+    ∙ ap (λ (xs : List (List ℕ)). texts first ++ (flat_map f (map g (take i rows)) ++ xs)) are
+    ∙ ap (λ (xs : List (List ℕ)). texts first ++ xs) (sym (flat-map-more f g rows i d within))
+
+-- names of one block more
+pub block-more : {X : Type 0} (f : X → List (List ℕ)) (blocks : List X) (i : ℕ) (d : X) (old new : List (List ℕ))
+    → i < length blocks → old ≡ flat_map f (take i blocks) → new ≡ old ++ f (get_or blocks i d) → new ≡ flat_map f (take (i + 1) blocks)
+block-more f blocks i d old new within before adds =
+    adds ∙ ap (λ (xs : List (List ℕ)). xs ++ f (get_or blocks i d)) before ∙ sym (flat-more f blocks i d within)
+
+named-is : (kind : NamedKind) (block : Block) (rows : List Asked) → rows ≡ name_rows → flat_map (named_by kind block) rows ≡ named_in kind block
+unfolding named_in
+named-is kind block rows are = ap (λ (all : List Asked). flat_map (named_by kind block) all) are
+
+-- what one block more names
+pub named-more : (kind : NamedKind) (blocks : List Block) (i : ℕ) (d : Block) (rows : List Asked) (old new : List (List ℕ)) → i < length blocks
+    → old ≡ flat_map (named_in kind) (take i blocks) → new ≡ old ++ flat_map (named_by kind (get_or blocks i d)) rows → rows ≡ name_rows
+    → new ≡ flat_map (named_in kind) (take (i + 1) blocks)
+named-more kind blocks i d rows old new within before adds are =
+    block-more (named_in kind) blocks i d old new within before (adds ∙ ap (λ (xs : List (List ℕ)). old ++ xs) (named-is kind (get_or blocks i d) rows are))
+
+-- what one block more uses
+pub used-more : (f : Block → List (List ℕ)) (blocks : List Block) (i : ℕ) (d : Block) (old new more : List (Bor (List ℕ))) → i < length blocks
+    → texts old ≡ flat_map f (take i blocks) → new ≡ old ++ more → texts more ≡ f (get_or blocks i d) → texts new ≡ flat_map f (take (i + 1) blocks)
+used-more f blocks i d old new more within before adds are =
+    block-more f blocks i d (texts old) (texts new) within before
+    (ap texts adds ∙ map-append (λ text. text.now) old more ∙ ap (λ (xs : List (List ℕ)). texts old ++ xs) are)
+
+-- an object by its number
+pub unused-at : (blocks : List Block) (kind : NamedKind) (values : Column) (objects : ObjectsOf) (of : BlockKind) (places : List ℕ) (names : List (List ℕ)) (number place : ℕ) (name : List ℕ) (unused : Bool)
+    → values ≡ record { blocks = blocks; directive = codes "contactgroups" } → objects ≡ record { blocks = blocks; kind = of } → of ≡ block_kind kind
+    → places ≡ objects_in objects.blocks objects.kind → names ≡ names_in objects.blocks objects.kind → place ≡ get_or places number 0 → name ≡ get_or names number []
+    → unused ≡ is_unused values.blocks kind place name → unused ≡ is_unused_at blocks kind number
+unused-at blocks kind values objects of places names number place name unused values_are objects_are of_is places_are names_are place_is name_is is =
+    is ∙ ap (λ (v : Column). is_unused v.blocks kind place name) values_are
+    ∙ ap₂ (λ (p : ℕ) (n : List ℕ). is_unused blocks kind p n)
+    (place_is ∙ ap (λ (xs : List ℕ). get_or xs number 0) (places_are ∙ ap (λ (o : ObjectsOf). objects_in o.blocks o.kind) objects_are ∙ ap (objects_in blocks) of_is))
+    (name_is ∙ ap (λ (xs : List (List ℕ)). get_or xs number []) (names_are ∙ ap (λ (o : ObjectsOf). names_in o.blocks o.kind) objects_are ∙ ap (names_in blocks) of_is))

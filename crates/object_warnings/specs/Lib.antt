@@ -1,0 +1,10 @@
+pub mod Numbers
+pub mod Objects
+pub mod Escalations
+pub mod Tables
+pub mod Directives
+pub mod Criteria
+pub mod Periods
+pub mod Overridden
+pub mod Hours
+pub mod Unused

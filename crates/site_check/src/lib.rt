@@ -1,0 +1,13 @@
+//! The check of object text: all faults of the first pass that finds any, told one after another, and the warnings.
+#![tactic(auto)]
+
+mod checking;
+mod ends;
+mod origins;
+mod warned;
+mod warned_forms;
+
+pub use checking::{Checked, Form, check, told};
+
+#[cfg(test)]
+mod tests;
