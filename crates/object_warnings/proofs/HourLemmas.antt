@@ -1,11 +1,11 @@
 -- Minutes of a week, one by one.
-use Rattle.std.proofs.Common.{◌≡◌, ℕ, zero, suc, ◌+◌, ◌<◌, ◌≤◌, ◌⊎◌, Bool, true, false, not, cond, ◌&&◌, List, [], ◌∷◌, ◌++◌, length, map, set, get_or, Option, Some, None, refl, sym, ap, ap₂, subst, eqb, eqb-true, inl, inr, ◌∙◌, arith}
-use Rattle.std.specs.Prelude.{◌||◌, ◌==◌, IfNone, IfSome, slice_get}
+use Rattle.std.proofs.Common.{◌≡◌, ℕ, zero, suc, ◌+◌, ◌<◌, ◌≤◌, ◌⊎◌, Bool, true, false, not, cond, ◌&&◌, List, [], ◌∷◌, ◌++◌, length, map, set, get_or, Option, Some, None, refl, sym, ap, subst, eqb, eqb-true, inl, inr, ◌∙◌, arith}
+use Rattle.std.specs.Prelude.{slice_get}
 use Rattle.std.specs.List.{list_any, range_with_len}
 use Rattle.std.specs.Option.{option_map_or}
 use Rattle.std.proofs.lemmas.Bool.{cases_eq, cases_lt, eqb-false, false≢true}
 use Rattle.std.proofs.Math.Seq.{get_or-append_seam}
-use Rattle.std.proofs.lemmas.List.{get_or-map, get_or_append_left, get_or_default, length-set, map-append}
+use Rattle.std.proofs.lemmas.List.{get_or-map, get_or_append_left, length-set, map-append}
 use Rattle.std.proofs.lemmas.List.FromFn.{get_or-map-range_with_len, length-map-range_with_len, map-range_with_len_more}
 use Rattle.lemmas.proofs.Lists.{slice_get_read}
 use Rattle.lemmas.proofs.Writes.{at_set}
@@ -67,12 +67,10 @@ stays-on rows minute end same stays = record {
     either k low high (inr other) = stays.same k (omega (arith, low, other)) high ∙ sym same
 
 -- the next minute has an end, and the same flags
-pub stays-next : (rows : List (List Bool)) (ends : List ℕ) (minute end : ℕ) → AreEnds rows (minute + 1) ends → minute + 1 < week → end ≡ get_or ends (minute + 1) end
+pub stays-next : (rows : List (List Bool)) (ends : List ℕ) (minute end : ℕ) → AreEnds rows (minute + 1) ends → minute + 1 < week → end ≡ get_or ends (minute + 1) 0
     → row_at rows minute ≡ row_at rows (minute + 1) → Stays rows minute end
 stays-next rows ends minute end are within is same =
-    stays-on rows minute end same
-    (subst (Stays rows (minute + 1)) (sym (is ∙ get_or_default ends (minute + 1) end 0 (let long = are.as_many in omega (arith, long, within))))
-    (are.each (minute + 1) (omega arith) within))
+    stays-on rows minute end same (subst (Stays rows (minute + 1)) (sym is) (are.each (minute + 1) (omega arith) within))
 
 -- two rows with the same flags
 pub rows-same : {C : Type 0} (items : C → List Bool) (rows : List C) (i j : ℕ) (x y : C) (one other : List Bool) → i < length rows → j < length rows → x ≡ get_or rows i x → y ≡ get_or rows j y
@@ -238,7 +236,7 @@ spans-more c n old new span long before more is o within =
 
 -- ---- the days of a period
 
-pub seven : {X : Type 0} (days : List X) (x0 x1 x2 x3 x4 x5 x6 : X) → length days ≡ 7 → x0 ≡ get_or days 0 x0 → x1 ≡ get_or days 1 x1 → x2 ≡ get_or days 2 x2 → x3 ≡ get_or days 3 x3
-    → x4 ≡ get_or days 4 x4 → x5 ≡ get_or days 5 x5 → x6 ≡ get_or days 6 x6 → x0 ∷ x1 ∷ x2 ∷ x3 ∷ x4 ∷ x5 ∷ x6 ∷ [] ≡ days
-seven (d0 ∷ d1 ∷ d2 ∷ d3 ∷ d4 ∷ d5 ∷ d6 ∷ []) x0 x1 x2 x3 x4 x5 x6 long e0 e1 e2 e3 e4 e5 e6 = λ i. e0 i ∷ e1 i ∷ e2 i ∷ e3 i ∷ e4 i ∷ e5 i ∷ e6 i ∷ []
-seven days x0 x1 x2 x3 x4 x5 x6 long e0 e1 e2 e3 e4 e5 e6 = absurd (omega (arith, long))
+pub seven : {X : Type 0} (days : List X) (d x0 x1 x2 x3 x4 x5 x6 : X) → length days ≡ 7 → x0 ≡ get_or days 0 d → x1 ≡ get_or days 1 d → x2 ≡ get_or days 2 d → x3 ≡ get_or days 3 d
+    → x4 ≡ get_or days 4 d → x5 ≡ get_or days 5 d → x6 ≡ get_or days 6 d → x0 ∷ x1 ∷ x2 ∷ x3 ∷ x4 ∷ x5 ∷ x6 ∷ [] ≡ days
+seven (d0 ∷ d1 ∷ d2 ∷ d3 ∷ d4 ∷ d5 ∷ d6 ∷ []) d x0 x1 x2 x3 x4 x5 x6 long e0 e1 e2 e3 e4 e5 e6 = λ i. e0 i ∷ e1 i ∷ e2 i ∷ e3 i ∷ e4 i ∷ e5 i ∷ e6 i ∷ []
+seven days d x0 x1 x2 x3 x4 x5 x6 long e0 e1 e2 e3 e4 e5 e6 = absurd (omega (arith, long))

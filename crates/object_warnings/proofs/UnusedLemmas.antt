@@ -42,27 +42,27 @@ rows-more f g rows i d first old new more within before adds are =
     ∙ ap (λ (xs : List (List ℕ)). texts first ++ xs) (sym (flat-map-more f g rows i d within))
 
 -- names of one block more
-pub block-more : {X : Type 0} (f : X → List (List ℕ)) (blocks : List X) (i : ℕ) (d : X) (old new : List (List ℕ))
-    → i < length blocks → old ≡ flat_map f (take i blocks) → new ≡ old ++ f (get_or blocks i d) → new ≡ flat_map f (take (i + 1) blocks)
-block-more f blocks i d old new within before adds =
-    adds ∙ ap (λ (xs : List (List ℕ)). xs ++ f (get_or blocks i d)) before ∙ sym (flat-more f blocks i d within)
+pub block-more : {X : Type 0} (f : X → List (List ℕ)) (blocks : List X) (i : ℕ) (block : X) (old new : List (List ℕ))
+    → i < length blocks → block ≡ get_or blocks i block → old ≡ flat_map f (take i blocks) → new ≡ old ++ f block → new ≡ flat_map f (take (i + 1) blocks)
+block-more {X} f blocks i block old new within is before adds =
+    adds ∙ ap (λ (xs : List (List ℕ)). xs ++ f block) before ∙ ap (λ (x : X). flat_map f (take i blocks) ++ f x) is ∙ sym (flat-more f blocks i block within)
 
 named-is : (kind : NamedKind) (block : Block) (rows : List Asked) → rows ≡ name_rows → flat_map (named_by kind block) rows ≡ named_in kind block
 unfolding named_in
 named-is kind block rows are = ap (λ (all : List Asked). flat_map (named_by kind block) all) are
 
 -- what one block more names
-pub named-more : (kind : NamedKind) (blocks : List Block) (i : ℕ) (d : Block) (rows : List Asked) (old new : List (List ℕ)) → i < length blocks
-    → old ≡ flat_map (named_in kind) (take i blocks) → new ≡ old ++ flat_map (named_by kind (get_or blocks i d)) rows → rows ≡ name_rows
+pub named-more : (kind : NamedKind) (blocks : List Block) (i : ℕ) (block : Block) (rows : List Asked) (old new : List (List ℕ)) → i < length blocks
+    → block ≡ get_or blocks i block → old ≡ flat_map (named_in kind) (take i blocks) → new ≡ old ++ flat_map (named_by kind block) rows → rows ≡ name_rows
     → new ≡ flat_map (named_in kind) (take (i + 1) blocks)
-named-more kind blocks i d rows old new within before adds are =
-    block-more (named_in kind) blocks i d old new within before (adds ∙ ap (λ (xs : List (List ℕ)). old ++ xs) (named-is kind (get_or blocks i d) rows are))
+named-more kind blocks i block rows old new within is before adds are =
+    block-more (named_in kind) blocks i block old new within is before (adds ∙ ap (λ (xs : List (List ℕ)). old ++ xs) (named-is kind block rows are))
 
 -- what one block more uses
-pub used-more : (f : Block → List (List ℕ)) (blocks : List Block) (i : ℕ) (d : Block) (old new more : List (Bor (List ℕ))) → i < length blocks
-    → texts old ≡ flat_map f (take i blocks) → new ≡ old ++ more → texts more ≡ f (get_or blocks i d) → texts new ≡ flat_map f (take (i + 1) blocks)
-used-more f blocks i d old new more within before adds are =
-    block-more f blocks i d (texts old) (texts new) within before
+pub used-more : (f : Block → List (List ℕ)) (blocks : List Block) (i : ℕ) (block : Block) (old new more : List (Bor (List ℕ))) → i < length blocks → block ≡ get_or blocks i block
+    → texts old ≡ flat_map f (take i blocks) → new ≡ old ++ more → texts more ≡ f block → texts new ≡ flat_map f (take (i + 1) blocks)
+used-more f blocks i block old new more within is before adds are =
+    block-more f blocks i block (texts old) (texts new) within is before
     (ap texts adds ∙ map-append (λ text. text.now) old more ∙ ap (λ (xs : List (List ℕ)). texts old ++ xs) are)
 
 -- an object by its number

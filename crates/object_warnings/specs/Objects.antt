@@ -1,12 +1,11 @@
 -- Hosts and services of whose problems nobody is told (chapters "Notifications" and "Notification Escalations").
-use Rattle.std.specs.Prelude.{ℕ, Bool, false, not, ◌==◌, ◌&&◌, ◌||◌, length, Option, None, Some, slice_get}
+use Rattle.std.specs.Prelude.{ℕ, Bool, false, not, ◌==◌, ◌&&◌, ◌||◌, length, None, Some, slice_get}
 use Rattle.std.specs.List.{list_any}
 use Rattle.std.specs.Option.{option_map_or}
 use Rattle.due_model.specs.ByObject.{places_of}
 use Rattle.due_model.specs.declared.config.Config.{Config}
 use Rattle.due_model.specs.declared.config.Contact.{Contact}
 use Rattle.due_model.specs.declared.config.ContactId.{ContactId}
-use Rattle.due_model.specs.declared.config.Escalation.{Escalation}
 use Rattle.due_model.specs.declared.config.Object.{Object}
 use Rattle.due_model.specs.declared.config.Rights.{Rights}
 use Rattle.due_model.specs.declared.options.OptionLetters.{OptionLetters}

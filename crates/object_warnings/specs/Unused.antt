@@ -1,6 +1,6 @@
 -- Unused: a contact, a group, a period, a command or a template that nothing names (chapters "Object Definitions" and "Object
 -- Inheritance").
-use Rattle.std.specs.Prelude.{ℕ, Bool, true, false, not, ◌==◌, ◌&&◌, ◌||◌, List, [], ◌∷◌, codes, flat_map, length, map, Option, None, Some, slice_get, slice_index_or, if◌then◌else◌}
+use Rattle.std.specs.Prelude.{ℕ, Bool, true, false, not, ◌==◌, ◌&&◌, ◌||◌, List, [], ◌∷◌, codes, flat_map, map, Option, slice_get, slice_index_or, if◌then◌else◌}
 use Rattle.std.specs.Option.{option_map_or}
 use Rattle.object_check.specs.Rows.{Asked, name_rows}
 use Rattle.object_check.specs.declared.rows.Must.{Must}
@@ -19,7 +19,6 @@ use Rattle.object_names.specs.declared.references.Reading.TheVariants.{NamesOrAl
 use Rattle.object_reader.specs.declared.block.Block.{Block}
 use Rattle.object_reader.specs.declared.block.BlockKind.{BlockKind}
 use Rattle.object_values.specs.Values.{command_name, entries_of, value_in}
-use Rattle.object_warnings.specs.Numbers.{numbers_where}
 
 -- ---- what blocks name: objects and templates alike, each by what it gives itself
 

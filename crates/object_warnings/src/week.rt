@@ -1,6 +1,6 @@
 //! Which periods hold at each minute of a week, holidays apart (chapter "Time Periods").
 
-ghost use Rattle.std.specs.Prelude.{◌≡◌, ◌+◌, ◌<◌, ◌≤◌, length, map, true, All, IfOk, Some};
+ghost use Rattle.std.specs.Prelude.{◌≡◌, ◌+◌, ◌<◌, ◌≤◌, [], length, map, slice_index_or, true, All, IfOk, Some};
 ghost use Rattle.due_model.specs.Accepted.{IsAccepted};
 ghost use Rattle.due_model.specs.declared.config.Config.{Config};
 ghost use Rattle.due_model.specs.declared.zone.Zone.TheVariants.{Utc};
@@ -41,6 +41,18 @@ fn ranges_of(alloc: Global, ranges: &Sequence<Range>) -> Result<Sequence<Range>,
     Ok(Sequence::new(Vec::from_slice(alloc, ranges.as_slice())?))
 }
 
+/// A copy of the ranges of a weekday.
+fn day_at(
+    alloc: Global,
+    days: &[Sequence<Range>],
+    weekday: usize,
+) -> Result<Sequence<Range>, AllocError>
+    requires { weekday < length days.now }
+    ensures { IfOk result (λ copy. copy ≡ slice_index_or days.now weekday []) }
+{
+    ranges_of(alloc, &days[weekday])
+}
+
 /// A copy of the numbers of periods.
 fn numbers_of(alloc: Global, numbers: &Sequence<PeriodId>) -> Result<Sequence<PeriodId>, AllocError>
     ensures { IfOk result (λ copy. copy ≡ numbers.now) }
@@ -56,13 +68,13 @@ fn plain(alloc: Global, period: &Period) -> Result<Period, AllocError>
     Ok(Period {
         name: ShortList::new(alloc, period.name.as_slice())?,
         days: [
-            ranges_of(alloc, &period.days[0])?,
-            ranges_of(alloc, &period.days[1])?,
-            ranges_of(alloc, &period.days[2])?,
-            ranges_of(alloc, &period.days[3])?,
-            ranges_of(alloc, &period.days[4])?,
-            ranges_of(alloc, &period.days[5])?,
-            ranges_of(alloc, &period.days[6])?,
+            day_at(alloc, &period.days, 0)?,
+            day_at(alloc, &period.days, 1)?,
+            day_at(alloc, &period.days, 2)?,
+            day_at(alloc, &period.days, 3)?,
+            day_at(alloc, &period.days, 4)?,
+            day_at(alloc, &period.days, 5)?,
+            day_at(alloc, &period.days, 6)?,
         ],
         dated: Sequence::new(Vec::new(alloc)),
         excludes: numbers_of(alloc, &period.excludes)?,
@@ -158,6 +170,14 @@ fn goes_on(rows: &[Vec<bool>], minute: usize, next: usize) -> bool
     are_same(rows[minute].as_slice(), rows[next].as_slice())
 }
 
+/// The end of a minute.
+fn end_at(ends: &[u16], minute: usize) -> u16
+    requires { minute < length ends.now }
+    ensures { result ≡ slice_index_or ends.now minute 0 }
+{
+    ends[minute]
+}
+
 /// The end up to which the flags of a minute stay, where the ends of later ones are known.
 fn end_of(rows: &[Vec<bool>], ends: &[u16], minute: usize) -> u16
     requires long { length rows.now ≡ week }
@@ -170,7 +190,7 @@ fn end_of(rows: &[Vec<bool>], ends: &[u16], minute: usize) -> u16
         return next as u16;
     }
     if goes_on(rows, minute, next) {
-        return ends[next];
+        return end_at(ends, next);
     }
     next as u16
 }

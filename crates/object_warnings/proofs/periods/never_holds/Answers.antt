@@ -1,5 +1,4 @@
-use Rattle.std.proofs.Common.{◌≡◌, Option, Some, ap, is_none, sym, ℕ, ◌∙◌}
-use Rattle.due_model.specs.Periods.{next_in}
+use Rattle.std.proofs.Common.{Option, ap, is_none, sym, ℕ, ◌∙◌}
 use Rattle.object_warnings.proofs.PeriodLemmas.{its_own}
 use Rattle.object_warnings.proofs.periods.never_holds.Goals as goal
 

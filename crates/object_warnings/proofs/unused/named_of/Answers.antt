@@ -4,5 +4,5 @@ use Rattle.object_warnings.proofs.unused.named_of.Goals as goal
 
 pub loop-block-preserved : goal.loop-block-preserved
 loop-block-preserved c =
-    named-more c.args.kind c.args.blocks.now c.loop-block.block-index _ _ (texts c.loop-block.names.items) _ c.loop-block-test.true c.loop-block.invariant
+    named-more c.args.kind c.args.blocks.now c.loop-block.block-index c.block-item.result _ (texts c.loop-block.names.items) _ c.loop-block-test.true c.block-item.is c.loop-block.invariant
     c.in_ok-push_named.ensures c.name_rows.ensures

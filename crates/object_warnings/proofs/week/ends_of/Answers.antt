@@ -1,6 +1,5 @@
-use Rattle.std.proofs.Common.{◌≡◌, ◌+◌, ◌-◌, ◌<◌, arith, map, subst, sym}
-use Rattle.object_warnings.specs.Hours.{AreEnds, week}
-use Rattle.object_warnings.proofs.HourLemmas.{ends-less, ends-none}
+use Rattle.std.proofs.Common.{arith, map}
+use Rattle.object_warnings.proofs.HourLemmas.{ends-none}
 use Rattle.object_warnings.proofs.week.ends_of.Goals as goal
 
 pub loop-minute-init : goal.loop-minute-init

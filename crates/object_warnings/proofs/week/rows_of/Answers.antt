@@ -1,4 +1,4 @@
-use Rattle.std.proofs.Common.{◌≡◌, ◌++◌, ◌∷◌, [], ap, arith, ◌∙◌, length, List, rules}
+use Rattle.std.proofs.Common.{◌≡◌, ◌++◌, ◌∷◌, [], ap, arith, ◌∙◌, rules}
 use Rattle.object_warnings.specs.Hours.{rows_upto, week}
 use Rattle.object_warnings.proofs.HourLemmas.{rows-more, rows-none}
 use Rattle.object_warnings.proofs.week.rows_of.Goals as goal
