@@ -1,5 +1,8 @@
 //! What is wrong with time ranges.
 
+ghost use Rattle.std.specs.Prelude.{◌≡◌, ◌⊎◌, false};
+ghost use Rattle.object_values.specs.Ranges.{are_ranges};
+
 use crate::telling::RangeFault;
 use object_values::ranges::are_ranges;
 
@@ -15,7 +18,9 @@ fn split(text: &[u8], byte: u8) -> (&[u8], Option<&[u8]>) {
 }
 
 /// The first range of a list of ranges that is none; the whole list where each is one.
-pub fn first_wrong(text: &[u8]) -> &[u8] {
+pub fn first_wrong(text: &[u8]) -> &[u8]
+    ensures { (are_ranges result.now ≡ false) ⊎ (result.now ≡ text.now) }
+{
     let mut rest = text;
     for _step in 0..text.len() {
         let (part, others) = split(rest, b',');

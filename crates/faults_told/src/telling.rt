@@ -1,5 +1,13 @@
 //! A fault as it is told.
 
+ghost use Rattle.std.specs.Prelude.{◌≡◌, ◌==◌};
+ghost use Rattle.faults_told.specs.Faults.{row_fault};
+ghost use Rattle.faults_told.specs.Words.{kind_word};
+ghost use Rattle.object_check.specs.declared.rows.Must.TheVariants.{Be};
+ghost use Rattle.object_inheritance.specs.Templates.{kind_number};
+
+use object_check::rows::Must;
+use object_faults::column::Check;
 use object_faults::load_fault::BlockFault;
 use object_inheritance::kinds::kind_number;
 use object_names::named::NamedKind;
@@ -73,7 +81,9 @@ pub struct Telling<'a> {
 }
 
 /// The word for blocks of the type, as a `define` has it.
-pub fn kind_word(kind: BlockKind) -> &'static str {
+pub fn kind_word(kind: BlockKind) -> &'static str
+    ensures { result.now ≡ kind_word kind }
+{
     match kind {
         BlockKind::Host => "host",
         BlockKind::HostGroup => "hostgroup",
@@ -93,6 +103,35 @@ pub fn kind_word(kind: BlockKind) -> &'static str {
 }
 
 /// Whether two types of block are one.
-pub fn is_same_kind(one: BlockKind, other: BlockKind) -> bool {
+pub fn is_same_kind(one: BlockKind, other: BlockKind) -> bool
+    ensures { result ≡ (kind_number one == kind_number other) }
+{
     kind_number(one) == kind_number(other)
+}
+
+/// The fault of a value that isn't what it must be.
+fn value_fault(check: Check) -> BlockFault
+    ensures { result ≡ row_fault (Be check) }
+{
+    match check {
+        Check::Given => BlockFault::MissingDirective,
+        Check::Number => BlockFault::BadNumber,
+        Check::Options(_) | Check::Criteria(_) => BlockFault::BadOption,
+        Check::Ranges => BlockFault::BadRange,
+        Check::Zero => BlockFault::Volatile,
+        Check::Names => BlockFault::Exclusion,
+    }
+}
+
+/// The fault of a block that isn't what it must be.
+pub fn row_fault(must: Must) -> BlockFault
+    ensures { result ≡ row_fault must }
+{
+    match must {
+        Must::Be(check) => value_fault(check),
+        Must::Name(_, _) => BlockFault::UnknownName,
+        Must::List(_) => BlockFault::MissingDirective,
+        Must::HaveWholeLines => BlockFault::BadRange,
+        Must::HaveDayLines => BlockFault::DatedException,
+    }
 }

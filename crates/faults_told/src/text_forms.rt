@@ -1,20 +1,25 @@
 //! The lines that tell a fault.
 
-ghost use Rattle.std.specs.Prelude.{◌≤◌, length};
+ghost use Rattle.std.specs.Prelude.{◌≡◌, ◌++◌, ◌≤◌, length, OnOk};
+ghost use Rattle.std.specs.Fmt.{decimal};
+ghost use Rattle.faults_told.specs.Forms.{Tells, head_text, line_at, place_text};
 
 use crate::blocks_named::{NamedBlock, named};
 use crate::located::{Source, located};
 use crate::telling::{Detail, RangeFault, Telling, kind_word};
 use itoa::Buffer;
 use object_reader::block::Block;
-use std::alloc::AllocError;
+use std::alloc::{AllocError, Global};
 
 /// At most so many bytes of a value are shown.
 const SHOWN: usize = 80;
 
 /// Adds a text.
-pub fn push(text: &mut Vec<u8>, more: &str) -> Result<(), AllocError> {
-    text.extend_from_slice(more.as_bytes())
+pub fn push(text: &mut Vec<u8>, more: &str) -> Result<(), AllocError>
+    ensures { OnOk result (text.new.items ≡ text.old.items ++ more.now) }
+{
+    text.extend_from_slice(more.as_bytes())?;
+    Ok(())
 }
 
 /// Adds a number, with a comma before each three digits.
@@ -206,50 +211,117 @@ fn push_blocks(
     Ok(())
 }
 
-/// Adds the place of a line: `FILE:LINE: `.
-pub fn push_place(text: &mut Vec<u8>, sources: &[Source<'_>], line: u64) -> Result<(), AllocError> {
-    let (file, number) = located(sources, line);
-    push(text, file)?;
-    text.push(b':')?;
+/// Adds the digits of a number.
+fn push_digits(text: &mut Vec<u8>, number: u64) -> Result<(), AllocError>
+    ensures { OnOk result (text.new.items ≡ text.old.items ++ decimal number) }
+{
     let mut buffer = Buffer::new();
     text.extend_from_slice(buffer.format(number).as_bytes())?;
-    push(text, ": ")
+    Ok(())
 }
 
-/// Adds the lines that tell the fault.
-pub fn push_telling(
+/// Adds the place of a line: `FILE:LINE: `.
+pub fn push_place(text: &mut Vec<u8>, sources: &[Source<'_>], line: u64) -> Result<(), AllocError>
+    ensures { OnOk result (text.new.items ≡ text.old.items ++ place_text sources.now line) }
+{
+    let (file, number) = located(sources, line);
+    push(text, file)?;
+    push(text, ":")?;
+    push_digits(text, number)?;
+    push(text, ": ")?;
+    Ok(())
+}
+
+/// The line of the block at the place.
+fn line_at(blocks: &[Block], place: usize) -> u64
+    ensures { result ≡ line_at blocks.now place }
+{
+    match blocks.get(place) {
+        None => 0,
+        Some(block) => block.line,
+    }
+}
+
+/// The word for the block at the place.
+fn word_at(blocks: &[Block], place: usize) -> &'static str {
+    match blocks.get(place) {
+        None => "",
+        Some(block) => kind_word(block.kind),
+    }
+}
+
+/// Adds how the lines begin that tell the fault.
+fn push_head(
+    text: &mut Vec<u8>,
+    sources: &[Source<'_>],
+    blocks: &[Block],
+    telling: &Telling<'_>,
+) -> Result<(), AllocError>
+    ensures { OnOk result (text.new.items
+        ≡ text.old.items ++ head_text sources.now blocks.now telling.now) }
+{
+    push_place(text, sources, line_at(blocks, telling.holder))?;
+    push(text, telling.fault.name())?;
+    Ok(())
+}
+
+/// Adds what is wrong, and an earlier block of which this is the line.
+fn push_what(
     text: &mut Vec<u8>,
     sources: &[Source<'_>],
     blocks: &[Block],
     telling: &Telling<'_>,
 ) -> Result<(), AllocError> {
-    let (line, kind) = match blocks.get(telling.holder) {
-        Some(holder) => (holder.line, kind_word(holder.kind)),
-        None => (0, ""),
-    };
-    push_place(text, sources, line)?;
-    push(text, telling.fault.name())?;
     if !telling.directive.is_empty() {
         push(text, ": ")?;
         push_name(text, telling.directive)?;
     }
     if !matches!(telling.detail, Detail::Unsaid) {
         push(text, ": ")?;
-        push_detail(text, telling, kind)?;
+        push_detail(text, telling, word_at(blocks, telling.holder))?;
     }
     if let Detail::Doubled(earlier) = telling.detail {
         push(text, ", at ")?;
         let (file, number) = located(sources, earlier);
         push(text, file)?;
-        text.push(b':')?;
-        let mut buffer = Buffer::new();
-        text.extend_from_slice(buffer.format(number).as_bytes())?;
+        push(text, ":")?;
+        push_digits(text, number)?;
     }
+    Ok(())
+}
+
+/// What the lines that tell the fault say after the place and its name.
+fn rest_of(
+    alloc: Global,
+    sources: &[Source<'_>],
+    blocks: &[Block],
+    telling: &Telling<'_>,
+) -> Result<Vec<u8>, AllocError> {
+    let mut text = Vec::new(alloc);
+    push_what(&mut text, sources, blocks, telling)?;
     if let Some(near) = telling.near {
-        push(text, "; did you mean ")?;
-        push_value(text, near)?;
+        push(&mut text, "; did you mean ")?;
+        push_value(&mut text, near)?;
         text.push(b'?')?;
     }
     text.push(b'\n')?;
-    push_blocks(text, blocks, telling)
+    push_blocks(&mut text, blocks, telling)?;
+    Ok(text)
+}
+
+/// Adds the lines that tell the fault: the first begins with the place of the block that holds the value, and the fault's name.
+pub fn push_telling(
+    alloc: Global,
+    text: &mut Vec<u8>,
+    sources: &[Source<'_>],
+    blocks: &[Block],
+    telling: &Telling<'_>,
+) -> Result<(), AllocError>
+    ensures { OnOk result
+        (Tells sources.now blocks.now telling.now text.old.items text.new.items) }
+{
+    push_head(text, sources, blocks, telling)?;
+    let rest = rest_of(alloc, sources, blocks, telling)?;
+    text.extend_from_slice(rest.as_slice())?;
+    Ok(())
 }

@@ -1,11 +1,14 @@
 //! The faults of values and names, each with the block that holds the value.
 
 ghost use Rattle.std.specs.Prelude.{OnOk};
+ghost use Rattle.faults_told.specs.Faults.{IsTelling};
+ghost use Rattle.object_check.specs.declared.rows.Must.TheVariants as musts;
+ghost use Rattle.object_faults.specs.declared.needs.Side.{Side};
 ghost use Rattle.object_inheritance.specs.LineSearch.{AreMarks};
 
 use crate::near::nearest;
 use crate::ranges_told::{first_wrong, range_fault};
-use crate::telling::{Detail, Telling};
+use crate::telling::{Detail, Telling, row_fault};
 use indexmap::IndexMap;
 use object_check::misfits::Misfit;
 use object_check::rows::{Must, Row};
@@ -118,18 +121,6 @@ fn detail_of(check: Check, text: &[u8]) -> (Detail, &[u8]) {
     }
 }
 
-/// The fault of a value that isn't what it must be.
-fn fault_of(check: Check) -> BlockFault {
-    match check {
-        Check::Given => BlockFault::MissingDirective,
-        Check::Number => BlockFault::BadNumber,
-        Check::Options(_) | Check::Criteria(_) => BlockFault::BadOption,
-        Check::Ranges => BlockFault::BadRange,
-        Check::Zero => BlockFault::Volatile,
-        Check::Names => BlockFault::Exclusion,
-    }
-}
-
 /// Whether an entry is wrong by itself: it leaves a name out, or none of the names is it.
 fn is_wrong_entry<'a>(must: Must, names: &Names<'a>, entry: &'a [u8]) -> bool {
     match must {
@@ -161,13 +152,12 @@ fn add<'a>(told: &mut Told<'a>, number: usize, telling: Telling<'a>) -> Result<(
     Ok(())
 }
 
-/// What is told of entries: the row, the names that are there, and the fault.
+/// What is told of entries: the row, the names that are there, and what is wrong.
 #[derive(Clone, Copy)]
 struct Entries<'a, 'b> {
     must: Must,
     directive: &'a [u8],
     names: &'b Names<'a>,
-    fault: BlockFault,
     detail: Detail,
 }
 
@@ -183,7 +173,7 @@ fn add_entries<'a>(
         if is_wrong_entry(of.must, of.names, *entry) {
             let telling = Telling {
                 holder,
-                fault: of.fault,
+                fault: row_fault(of.must),
                 directive: of.directive,
                 value: *entry,
                 detail: of.detail,
@@ -225,12 +215,15 @@ fn value_telling<'a>(
     directive: &'a [u8],
     holder: usize,
     users: Users,
-) -> Telling<'a> {
+) -> Telling<'a>
+    ensures { IsTelling must holder users.first users.others result }
+{
+    let fault = row_fault(must);
     let text = values.value(users.first).unwrap_or(&[]);
-    let (fault, (detail, value)) = match must {
-        Must::Be(check) => (fault_of(check), detail_of(check, text)),
-        Must::Name(named, _) => (BlockFault::UnknownName, (Detail::NoObject(named), text)),
-        _ => (BlockFault::MissingDirective, (Detail::NotGiven, text)),
+    let (detail, value) = match must {
+        Must::Be(check) => detail_of(check, text),
+        Must::Name(named, _) => (Detail::NoObject(named), text),
+        _ => (Detail::NotGiven, text),
     };
     Telling {
         holder,
@@ -263,11 +256,11 @@ fn names_for<'a, 'b>(objects: &'b NamedObjects<'a>, must: Must) -> &'b Names<'a>
     }
 }
 
-/// The fault of an entry by the row, and what is wrong with it.
-fn entry_fault(must: Must) -> (BlockFault, Detail) {
+/// What is wrong with an entry by the row.
+fn entry_detail(must: Must) -> Detail {
     match must {
-        Must::Name(named, _) => (BlockFault::UnknownName, Detail::NoObject(named)),
-        _ => (BlockFault::Exclusion, Detail::LeavesOut),
+        Must::Name(named, _) => Detail::NoObject(named),
+        _ => Detail::LeavesOut,
     }
 }
 
@@ -284,13 +277,11 @@ fn told_of_row<'a>(
     let directive: &'a [u8] = name.as_bytes();
     let values = Values::new(alloc, templates, directive)?;
     let users = users_of(alloc, &values, misfits, number)?;
-    let (fault, detail) = entry_fault(must);
     let of = Entries {
         must,
         directive,
         names: names_for(objects, must),
-        fault,
-        detail,
+        detail: entry_detail(must),
     };
     let mut told = IndexMap::new(alloc);
     for (holder, of_holder) in users.iter() {
@@ -306,7 +297,9 @@ fn told_of_row<'a>(
 }
 
 /// What is told of blocks that list no hosts or services on a side.
-fn side_telling<'a>(kind: BlockKind, directive: &'a [u8], place: usize) -> Telling<'a> {
+fn side_telling<'a>(kind: BlockKind, directive: &'a [u8], place: usize) -> Telling<'a>
+    ensures { (side : Side) → IsTelling (musts.List side) place place 0 result }
+{
     let detail = match kind {
         BlockKind::ServiceEscalation | BlockKind::ServiceDependency => Detail::NoServices,
         _ => Detail::NoHosts,
@@ -336,18 +329,20 @@ fn is_wrong_line(must: Must, line: &Line<'_>) -> bool {
 }
 
 /// What is told of a line of dates of the block at the place.
-fn line_telling<'a>(must: Must, line: Line<'a>, place: usize) -> Telling<'a> {
-    let (fault, detail, value) = match (must, day_named(line.name)) {
-        (Must::HaveDayLines, _) => (BlockFault::DatedException, Detail::OtherDay, line.text),
+fn line_telling<'a>(must: Must, line: Line<'a>, place: usize) -> Telling<'a>
+    ensures { IsTelling must place place 0 result }
+{
+    let (detail, value) = match (must, day_named(line.name)) {
+        (Must::HaveDayLines, _) => (Detail::OtherDay, line.text),
         (_, DayName::Day(_)) if line.text.contains(&b':') => {
             let part = first_wrong(line.text);
-            (BlockFault::BadRange, Detail::Range(range_fault(part)), part)
+            (Detail::Range(range_fault(part)), part)
         }
-        _ => (BlockFault::BadRange, Detail::NoDay, line.text),
+        _ => (Detail::NoDay, line.text),
     };
     Telling {
         holder: place,
-        fault,
+        fault: row_fault(must),
         directive: line.name,
         value,
         detail,

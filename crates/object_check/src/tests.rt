@@ -15,6 +15,12 @@ define host{
 }
 ";
 
+/// The faults of its values: the first block lacks its name, and its interval isn't a number.
+const VALUES: [Misfit; 2] = [Misfit { place: 0, row: 0 }, Misfit { place: 0, row: 16 }];
+
+/// That of its names: the contact isn't there.
+const NAMES: [Misfit; 1] = [Misfit { place: 1, row: 1 }];
+
 /// The faults of the values, and those of the names.
 fn found(alloc: Global) -> Result<(Vec<Misfit>, Vec<Misfit>), AllocError> {
     let text = Vec::from_slice(alloc, TEXT)?;
@@ -33,12 +39,7 @@ fn found(alloc: Global) -> Result<(Vec<Misfit>, Vec<Misfit>), AllocError> {
 #[test]
 fn all_faults_are_told(rt: HostRuntime) -> Result<(), AllocError> {
     let (values, names) = found(rt.alloc())?;
-    let values_are = matches!(
-        values.as_slice(),
-        [Misfit { place: 0, row: 0 }, Misfit { place: 0, row: 16 }]
-    );
-    assert!(rt; values_are);
-    let names_are = matches!(names.as_slice(), [Misfit { place: 1, row: 1 }]);
-    assert!(rt; names_are);
+    assert!(rt; values.as_slice() == VALUES.as_slice());
+    assert!(rt; names.as_slice() == NAMES.as_slice());
     Ok(())
 }

@@ -8,3 +8,4 @@ pub mod Periods
 pub mod Overridden
 pub mod Hours
 pub mod Unused
+pub mod Warning

@@ -1,5 +1,8 @@
 //! The names of warnings.
 
+ghost use Rattle.std.specs.Prelude.{◌≡◌};
+ghost use Rattle.object_warnings.specs.Warning.{warning_name};
+
 /// What a warning is about.
 #[derive(Clone, Copy, Debug, PartialEq, Eq)]
 pub enum Warning {
@@ -29,7 +32,9 @@ pub enum Warning {
 
 impl Warning {
     /// The name by which it is left out.
-    pub fn name(self) -> &'static str {
+    pub fn name(self) -> &'static str
+        ensures { result.now ≡ warning_name self }
+    {
         match self {
             Warning::UnknownDirective => "UnknownDirective",
             Warning::WithoutEffect => "WithoutEffect",

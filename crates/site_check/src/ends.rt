@@ -1,6 +1,6 @@
 //! The last line of a check: what was checked, and what was found.
 
-use crate::checking::Form;
+use crate::options::Form;
 use due_model::config::Config;
 use faults_told::forms::{push_count, push_string};
 use faults_told::text_forms::{push, push_number};

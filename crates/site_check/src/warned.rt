@@ -1,32 +1,25 @@
-//! The warnings of a text, as they are told.
+//! The warnings of blocks, as they are told.
 
-ghost use Rattle.due_model.specs.Accepted.{IsAccepted};
+ghost use Rattle.std.specs.Prelude.{◌≡◌, ◌+◌, length, map, IfOk, OnOk};
+ghost use Rattle.site_check.specs.Warnings.{is_left_out, line_name};
+ghost use Rattle.site_check.specs.Warnings.{of_blocks, of_overridden, of_passed_over};
+ghost use Rattle.site_check.specs.Warnings.{of_templates, of_unknown};
 
-use crate::checking::Form;
-use crate::origins::{object_places, period_places};
-use due_model::config::Config;
-use due_model::limits::LAST_MOMENT;
+use crate::options::Form;
 use faults_told::near::nearest;
 use object_groups::names::Names;
-use object_groups::objects::name_directive;
 use object_inheritance::templates::Templates;
-use object_names::named::{NamedKind, NamedObjects};
 use object_reader::block::{Block, BlockKind, Directive};
+use object_values::values::equals;
 use object_warnings::criteria::without_criteria;
 use object_warnings::directives::{firsts, lines_where};
-use object_warnings::escalations::dead;
-use object_warnings::hours::{Span, without_hours};
+use object_warnings::hours::Span;
 use object_warnings::lines::{Line, Test};
-use object_warnings::objects::{untold, without_problems};
 use object_warnings::overridden::overridden;
 use object_warnings::passed_over::passed_over;
-use object_warnings::periods::{never, without_zone};
 use object_warnings::tables::read_here;
-use object_warnings::unused::{unused, unused_templates};
 use object_warnings::warning::Warning;
 use std::alloc::{AllocError, Global};
-use time_period::compile::compile_all;
-use zone_times::clock::ZoneClock;
 
 /// A warning as it is told.
 #[derive(Clone, Copy)]
@@ -49,8 +42,17 @@ pub(crate) struct Warned<'a> {
 /// At most so many warnings are told with a near name.
 const MOST_NEAR: usize = 64;
 
+/// Whether warnings of the name are left out.
+pub(crate) fn is_left_out(form: Form<'_, '_>, warning: Warning) -> bool
+    ensures { result ≡ is_left_out form.entry warning }
+{
+    form.allowed
+        .iter()
+        .any(|name| equals((*name).as_bytes(), warning.name()))
+}
+
 /// A warning about the block at the place.
-fn about<'a>(warning: Warning, place: usize, directive: &'a str) -> Warned<'a> {
+pub(crate) fn about<'a>(warning: Warning, place: usize, directive: &'a str) -> Warned<'a> {
     Warned {
         warning,
         place,
@@ -62,23 +64,20 @@ fn about<'a>(warning: Warning, place: usize, directive: &'a str) -> Warned<'a> {
     }
 }
 
-/// A warning about a directive of the block at the place.
-fn about_line<'a>(warning: Warning, place: usize, directive: &'a Directive) -> Warned<'a> {
-    Warned {
-        warning,
-        place,
-        directive: directive.name.as_slice(),
-        value: directive.value.as_slice(),
-        near: None,
-        times: 1,
-        span: None,
-    }
-}
-
 /// The directive that a line is.
 fn directive_of<'a>(blocks: &'a [Block], line: Line) -> Option<&'a Directive> {
     let block = blocks.get(line.place)?;
     block.directives.as_slice().get(line.number)
+}
+
+/// A warning about the directive that a line is.
+fn about_line<'a>(warning: Warning, blocks: &'a [Block], line: Line) -> Warned<'a> {
+    let mut one = about(warning, line.place, "");
+    if let Some(directive) = directive_of(blocks, line) {
+        one.directive = directive.name.as_slice();
+        one.value = directive.value.as_slice();
+    }
+    one
 }
 
 /// Adds texts.
@@ -101,25 +100,52 @@ fn near_directive<'a>(
     nearest(alloc, name, names.as_slice())
 }
 
+/// What is told of a directive that no type of Nagios has, with a near name where one is asked for.
+fn unknown_line<'a>(
+    alloc: Global,
+    blocks: &'a [Block],
+    line: Line,
+    asked: bool,
+) -> Result<Warned<'a>, AllocError> {
+    let mut one = about_line(Warning::UnknownDirective, blocks, line);
+    if asked {
+        if let Some(block) = blocks.get(line.place) {
+            one.near = near_directive(alloc, block.kind, one.directive)?;
+        }
+    }
+    Ok(one)
+}
+
+/// Adds what is told of the lines, of directives that no type of Nagios has.
+fn add_unknown_lines<'a>(
+    alloc: Global,
+    blocks: &'a [Block],
+    lines: &[Line],
+    warned: &mut Vec<Warned<'a>>,
+) -> Result<(), AllocError>
+    ensures { OnOk result (length warned.new.items ≡ length warned.old.items + length lines.now) }
+{
+    for number in 0..lines.len() {
+        let line = lines[number];
+        warned.push(unknown_line(alloc, blocks, line, number < MOST_NEAR)?)?;
+    }
+    Ok(())
+}
+
 /// Adds what is told of directives that no type of Nagios has.
 fn add_unknown<'a>(
     alloc: Global,
+    form: Form<'_, '_>,
     blocks: &'a [Block],
     warned: &mut Vec<Warned<'a>>,
-) -> Result<(), AllocError> {
-    let lines = lines_where(alloc, Test::Unknown, blocks)?;
-    for (number, line) in lines.as_slice().iter().enumerate() {
-        if let (Some(block), Some(directive)) = (
-            blocks.get(line.place),
-            directive_of(blocks, *line),
-        ) {
-            let mut one = about_line(Warning::UnknownDirective, line.place, directive);
-            if number < MOST_NEAR {
-                one.near = near_directive(alloc, block.kind, directive.name.as_slice())?;
-            }
-            warned.push(one)?;
-        }
+) -> Result<(), AllocError>
+    ensures { OnOk result (length warned.new.items ≡ length warned.old.items + of_unknown form.entry blocks.now) }
+{
+    if is_left_out(form, Warning::UnknownDirective) {
+        return Ok(());
     }
+    let lines = lines_where(alloc, Test::Unknown, blocks)?;
+    add_unknown_lines(alloc, blocks, lines.as_slice(), warned)?;
     Ok(())
 }
 
@@ -134,44 +160,88 @@ fn count_of(names: &Names<'_>, name: &[u8]) -> usize {
     count
 }
 
-/// The names of the directives that the lines are.
-fn names_of<'a>(
-    alloc: Global,
-    blocks: &'a [Block],
-    lines: &[Line],
-) -> Result<Names<'a>, AllocError> {
-    let mut names: Vec<&'a [u8]> = Vec::new(alloc);
-    for line in lines {
-        let name = match directive_of(blocks, *line) {
-            Some(directive) => directive.name.as_slice(),
+/// The name of the directive that a line is; empty where there is none.
+fn line_name<'a>(blocks: &'a [Block], line: Line) -> &'a [u8]
+    ensures { result.now ≡ line_name blocks.now line }
+{
+    match blocks.get(line.place) {
+        None => &[],
+        Some(block) => match block.directives.as_slice().get(line.number) {
             None => &[],
-        };
-        names.push(name)?;
+            Some(directive) => directive.name.as_slice(),
+        },
+    }
+}
+
+/// The names of the directives that the lines are.
+fn names_of<'a>(alloc: Global, blocks: &'a [Block], lines: &[Line]) -> Result<Names<'a>, AllocError>
+    ensures { IfOk result (λ names. names ≡ map (line_name blocks.now) lines.now) }
+{
+    let mut names: Vec<&'a [u8]> = Vec::with_capacity(alloc, lines.len())?;
+    for line in lines {
+        names.push(line_name(blocks, *line))?;
     }
     Names::new(alloc, names)
+}
+
+/// What is told of the directive of that number among those that have no effect here.
+fn passed_over_line<'a>(names: &Names<'a>, lines: &[Line], number: usize) -> Warned<'a> {
+    let name = names.name(number);
+    let place = match lines.get(number) {
+        Some(line) => line.place,
+        None => 0,
+    };
+    let mut one = about(Warning::WithoutEffect, place, "");
+    one.directive = name;
+    one.times = count_of(names, name);
+    one
+}
+
+/// Adds what is told of the directives of these numbers among those that have no effect here.
+fn add_numbered<'a>(
+    names: &Names<'a>,
+    lines: &[Line],
+    numbers: &[usize],
+    warned: &mut Vec<Warned<'a>>,
+) -> Result<(), AllocError>
+    ensures { OnOk result (length warned.new.items ≡ length warned.old.items + length numbers.now) }
+{
+    for number in numbers {
+        warned.push(passed_over_line(names, lines, *number))?;
+    }
+    Ok(())
 }
 
 /// Adds what is told of directives that have no effect here: of each the first, and how many there are.
 fn add_passed_over<'a>(
     alloc: Global,
+    form: Form<'_, '_>,
     blocks: &'a [Block],
     warned: &mut Vec<Warned<'a>>,
-) -> Result<(), AllocError> {
+) -> Result<(), AllocError>
+    ensures { OnOk result (length warned.new.items
+        ≡ length warned.old.items + of_passed_over form.entry blocks.now) }
+{
+    if is_left_out(form, Warning::WithoutEffect) {
+        return Ok(());
+    }
     let lines = lines_where(alloc, Test::PassedOver, blocks)?;
     let names = names_of(alloc, blocks, lines.as_slice())?;
-    for number in firsts(alloc, &names)?.as_slice() {
-        if let Some(line) = lines.as_slice().get(*number) {
-            let name = names.name(*number);
-            warned.push(Warned {
-                warning: Warning::WithoutEffect,
-                place: line.place,
-                directive: name,
-                value: &[],
-                near: None,
-                times: count_of(&names, name),
-                span: None,
-            })?;
-        }
+    let numbers = firsts(alloc, &names)?;
+    add_numbered(&names, lines.as_slice(), numbers.as_slice(), warned)?;
+    Ok(())
+}
+
+/// Adds what is told of the lines, of directives that are given twice.
+fn add_overridden_lines<'a>(
+    blocks: &'a [Block],
+    lines: &[Line],
+    warned: &mut Vec<Warned<'a>>,
+) -> Result<(), AllocError>
+    ensures { OnOk result (length warned.new.items ≡ length warned.old.items + length lines.now) }
+{
+    for line in lines {
+        warned.push(about_line(Warning::Overridden, blocks, *line))?;
     }
     Ok(())
 }
@@ -179,42 +249,31 @@ fn add_passed_over<'a>(
 /// Adds what is told of directives that are given twice.
 fn add_overridden<'a>(
     alloc: Global,
+    form: Form<'_, '_>,
     blocks: &'a [Block],
     warned: &mut Vec<Warned<'a>>,
-) -> Result<(), AllocError> {
-    for line in overridden(alloc, blocks)?.as_slice() {
-        if let Some(directive) = directive_of(blocks, *line) {
-            warned.push(about_line(Warning::Overridden, line.place, directive))?;
-        }
+) -> Result<(), AllocError>
+    ensures { OnOk result (length warned.new.items ≡ length warned.old.items + of_overridden form.entry blocks.now) }
+{
+    if is_left_out(form, Warning::Overridden) {
+        return Ok(());
     }
+    let lines = overridden(alloc, blocks)?;
+    add_overridden_lines(blocks, lines.as_slice(), warned)?;
     Ok(())
 }
 
 /// Adds a warning about each of the blocks at the places.
-fn add_places<'a>(
+pub(crate) fn add_places<'a>(
     warning: Warning,
     directive: &'a str,
     places: &[usize],
     warned: &mut Vec<Warned<'a>>,
-) -> Result<(), AllocError> {
+) -> Result<(), AllocError>
+    ensures { OnOk result (length warned.new.items ≡ length warned.old.items + length places.now) }
+{
     for place in places {
         warned.push(about(warning, *place, directive))?;
-    }
-    Ok(())
-}
-
-/// Adds a warning about each of the blocks that give what has these numbers, where those of all stand at these places.
-fn add_numbers<'a>(
-    warning: Warning,
-    directive: &'a str,
-    numbers: &[usize],
-    places: &[usize],
-    warned: &mut Vec<Warned<'a>>,
-) -> Result<(), AllocError> {
-    for number in numbers {
-        if let Some(place) = places.get(*number) {
-            warned.push(about(warning, *place, directive))?;
-        }
     }
     Ok(())
 }
@@ -222,198 +281,34 @@ fn add_numbers<'a>(
 /// Adds what is told of blocks.
 pub(crate) fn add_of_blocks<'a>(
     alloc: Global,
+    form: Form<'_, '_>,
     blocks: &'a [Block],
     warned: &mut Vec<Warned<'a>>,
-) -> Result<(), AllocError> {
-    add_unknown(alloc, blocks, warned)?;
-    add_passed_over(alloc, blocks, warned)?;
-    add_overridden(alloc, blocks, warned)
+) -> Result<(), AllocError>
+    ensures { OnOk result (length warned.new.items ≡ length warned.old.items + of_blocks form.entry blocks.now) }
+{
+    add_unknown(alloc, form, blocks, warned)?;
+    add_passed_over(alloc, form, blocks, warned)?;
+    add_overridden(alloc, form, blocks, warned)?;
+    Ok(())
 }
 
 /// Adds what is told of blocks whose templates have no fault.
+#[tactic(auto, unfolding(crate::specs::Warnings::of_templates))]
 pub(crate) fn add_of_templates<'a>(
     alloc: Global,
+    form: Form<'_, '_>,
     templates: &Templates<'_>,
     warned: &mut Vec<Warned<'a>>,
-) -> Result<(), AllocError> {
+) -> Result<(), AllocError>
+    ensures { OnOk result (length warned.new.items
+        ≡ length warned.old.items + of_templates form.entry templates.now) }
+{
+    if is_left_out(form, Warning::NoCriteria) {
+        return Ok(());
+    }
     let places = without_criteria(alloc, templates)?;
     let directive = "notification_failure_criteria";
-    add_places(Warning::NoCriteria, directive, places.as_slice(), warned)
-}
-
-/// Adds what is told of escalations, each at the block of its object.
-fn add_dead<'a>(
-    alloc: Global,
-    config: &Config,
-    places: &[usize],
-    warned: &mut Vec<Warned<'a>>,
-) -> Result<(), AllocError> {
-    for number in dead(alloc, config)?.as_slice() {
-        if let Some(escalation) = config.escalations.as_slice().get(*number) {
-            let object = usize::from(escalation.object.0);
-            add_numbers(Warning::DeadEscalation, "", &[object], places, warned)?;
-        }
-    }
+    add_places(Warning::NoCriteria, directive, places.as_slice(), warned)?;
     Ok(())
-}
-
-/// Adds what is told of objects at some time of whose week nobody is told.
-fn add_without_hours<'a>(
-    alloc: Global,
-    config: &Config,
-    places: &[usize],
-    warned: &mut Vec<Warned<'a>>,
-) -> Result<(), AllocError>
-    requires { IsAccepted config.now }
-{
-    for (number, span) in without_hours(alloc, config)?.as_slice().iter().enumerate() {
-        if let (Some(_), Some(place)) = (*span, places.get(number)) {
-            let mut one = about(Warning::NoHours, *place, "");
-            one.span = *span;
-            warned.push(one)?;
-        }
-    }
-    Ok(())
-}
-
-/// Adds what is told of the hosts and services.
-fn add_of_objects<'a>(
-    alloc: Global,
-    templates: &Templates<'_>,
-    config: &Config,
-    warned: &mut Vec<Warned<'a>>,
-) -> Result<(), AllocError>
-    requires { IsAccepted config.now }
-{
-    let places = object_places(alloc, templates)?;
-    let silent = untold(alloc, config)?;
-    add_numbers(
-        Warning::NobodyTold,
-        "",
-        silent.as_slice(),
-        places.as_slice(),
-        warned,
-    )?;
-    let lacking = without_problems(alloc, config)?;
-    let directive = "notification_options";
-    add_numbers(
-        Warning::MissingOption,
-        directive,
-        lacking.as_slice(),
-        places.as_slice(),
-        warned,
-    )?;
-    add_without_hours(alloc, config, places.as_slice(), warned)?;
-    add_dead(alloc, config, places.as_slice(), warned)
-}
-
-/// Adds what is told of the periods.
-fn add_of_periods<'a>(
-    alloc: Global,
-    form: Form<'_, '_>,
-    templates: &Templates<'_>,
-    config: &Config,
-    warned: &mut Vec<Warned<'a>>,
-) -> Result<(), AllocError>
-    requires { IsAccepted config.now }
-{
-    let places = period_places(alloc, templates)?;
-    let partial = without_zone(alloc, config, form.has_zone)?;
-    add_numbers(
-        Warning::NoZone,
-        "",
-        partial.as_slice(),
-        places.as_slice(),
-        warned,
-    )?;
-    let compiled = compile_all(alloc, config)?;
-    let clock = ZoneClock::new(form.zone);
-    let empty = never(
-        alloc,
-        compiled.as_slice(),
-        &clock,
-        form.moment.min(LAST_MOMENT),
-    )?;
-    add_numbers(
-        Warning::NeverHours,
-        "",
-        empty.as_slice(),
-        places.as_slice(),
-        warned,
-    )
-}
-
-/// The types of object of which it is told that nothing names them.
-const USED: [NamedKind; 6] = [
-    NamedKind::HostGroup,
-    NamedKind::ServiceGroup,
-    NamedKind::Contact,
-    NamedKind::ContactGroup,
-    NamedKind::TimePeriod,
-    NamedKind::Command,
-];
-
-/// The types of block that have templates.
-const TEMPLATES: [BlockKind; 12] = [
-    BlockKind::Host,
-    BlockKind::HostGroup,
-    BlockKind::Service,
-    BlockKind::ServiceGroup,
-    BlockKind::Contact,
-    BlockKind::ContactGroup,
-    BlockKind::TimePeriod,
-    BlockKind::Command,
-    BlockKind::HostEscalation,
-    BlockKind::ServiceEscalation,
-    BlockKind::HostDependency,
-    BlockKind::ServiceDependency,
-];
-
-/// Adds what is told of objects that nothing names.
-fn add_unused<'a>(
-    alloc: Global,
-    templates: &Templates<'_>,
-    warned: &mut Vec<Warned<'a>>,
-) -> Result<(), AllocError> {
-    let objects = NamedObjects::new(alloc, templates)?;
-    for kind in USED {
-        let numbers = unused(alloc, templates, kind)?;
-        add_numbers(
-            Warning::Unused,
-            name_directive(kind.block_kind()),
-            numbers.as_slice(),
-            objects.objects(kind).places(),
-            warned,
-        )?;
-    }
-    Ok(())
-}
-
-/// Adds what is told of templates that nothing names.
-fn add_unused_templates<'a>(
-    alloc: Global,
-    blocks: &[Block],
-    warned: &mut Vec<Warned<'a>>,
-) -> Result<(), AllocError> {
-    for kind in TEMPLATES {
-        let places = unused_templates(alloc, blocks, kind)?;
-        add_places(Warning::Unused, "name", places.as_slice(), warned)?;
-    }
-    Ok(())
-}
-
-/// Adds what is told of a configuration.
-pub(crate) fn add_of_config<'a>(
-    alloc: Global,
-    form: Form<'_, '_>,
-    templates: &Templates<'_>,
-    config: &Config,
-    warned: &mut Vec<Warned<'a>>,
-) -> Result<(), AllocError>
-    requires { IsAccepted config.now }
-{
-    add_unused(alloc, templates, warned)?;
-    add_unused_templates(alloc, templates.blocks(), warned)?;
-    add_of_objects(alloc, templates, config, warned)?;
-    add_of_periods(alloc, form, templates, config, warned)
 }

@@ -1,15 +1,18 @@
 //! The lines that tell warnings.
 
+ghost use Rattle.std.specs.Prelude.{◌≡◌, length, IfOk, OnOk};
 ghost use Rattle.due_model.specs.Accepted.{IsAccepted};
+ghost use Rattle.site_check.specs.Warnings.{IsIfFree, IsOfConfig, IsOfFaulty, IsOfText};
 
-use crate::checking::Form;
-use crate::warned::{Warned, add_of_blocks, add_of_config, add_of_templates};
+use crate::options::Form;
+use crate::warned::{Warned, add_of_blocks, add_of_templates};
+use crate::warned_config::warned_of_config;
 use due_model::config::Config;
 use faults_told::blocks_named::named;
 use faults_told::forms::{begin, push_block, push_count, push_member};
 use faults_told::telling::kind_word;
 use faults_told::text_forms::{push, push_holder, push_name, push_number, push_place, push_value};
-use object_inheritance::templates::Templates;
+use object_inheritance::templates::{InheritanceFault, Templates};
 use object_reader::block::Block;
 use object_reader::reading::read;
 use object_warnings::hours::Span;
@@ -158,33 +161,75 @@ fn push_plain(
     Ok(())
 }
 
-/// Whether warnings of the name are left out.
-fn is_allowed(form: Form<'_, '_>, warning: Warning) -> bool {
-    form.allowed.iter().any(|name| *name == warning.name())
+/// Adds the lines that tell a warning.
+fn push_one(
+    alloc: Global,
+    text: &mut Vec<u8>,
+    form: Form<'_, '_>,
+    blocks: &[Block],
+    one: &Warned<'_>,
+) -> Result<(), AllocError> {
+    match blocks.get(one.place) {
+        None => Ok(()),
+        Some(block) => {
+            if form.json {
+                push_json(alloc, text, form, block, one)
+            } else {
+                push_plain(text, form, block, one)
+            }
+        }
+    }
 }
 
-/// Adds the lines that tell the warnings, and counts them.
+/// Adds the lines that tell the warnings, in file order, and says how many there are.
 fn push_all(
     alloc: Global,
     text: &mut Vec<u8>,
     form: Form<'_, '_>,
     blocks: &[Block],
-    warned: &[Warned<'_>],
-) -> Result<u64, AllocError> {
-    let mut count: u64 = 0;
-    for one in warned {
-        if !is_allowed(form, one.warning) {
-            if let Some(block) = blocks.get(one.place) {
-                if form.json {
-                    push_json(alloc, text, form, block, one)?;
-                } else {
-                    push_plain(text, form, block, one)?;
-                }
-                count = count.saturating_add(1);
-            }
-        }
+    warned: Vec<Warned<'_>>,
+) -> Result<u64, AllocError>
+    ensures { IfOk result (λ count. count ≡ length warned.entry.items) }
+{
+    let mut sorted = warned;
+    sorted.sort_by_key(|one| one.place)?;
+    for one in sorted.as_slice() {
+        push_one(alloc, text, form, blocks, one)?;
     }
-    Ok(count)
+    Ok(sorted.len() as u64)
+}
+
+/// Adds what templates give, where they have no fault.
+fn add_if_free<'a>(
+    alloc: Global,
+    form: Form<'_, '_>,
+    blocks: &'a [Block],
+    warned: &mut Vec<Warned<'a>>,
+) -> Result<(), AllocError>
+    ensures { OnOk result (IsIfFree form.entry blocks.now (length warned.old.items) (length warned.new.items)) }
+{
+    match Templates::new(alloc, blocks) {
+        Ok(templates) => {
+            add_of_templates(alloc, form, &templates, warned)?;
+            Ok(())
+        }
+        Err(InheritanceFault::NoMemory) => Err(AllocError),
+        Err(InheritanceFault::AtLine { .. }) => Ok(()),
+    }
+}
+
+/// The warnings of blocks of which some has a fault.
+fn warned_of_blocks<'a>(
+    alloc: Global,
+    form: Form<'_, '_>,
+    blocks: &'a [Block],
+) -> Result<Vec<Warned<'a>>, AllocError>
+    ensures { IfOk result (λ warned. IsOfFaulty form.entry blocks.now (length warned.items)) }
+{
+    let mut warned = Vec::new(alloc);
+    add_of_blocks(alloc, form, blocks, &mut warned)?;
+    add_if_free(alloc, form, blocks, &mut warned)?;
+    Ok(warned)
 }
 
 /// Adds the warnings of blocks of which some has a fault, in file order, and counts them.
@@ -193,14 +238,31 @@ pub(crate) fn push_of_blocks(
     text: &mut Vec<u8>,
     form: Form<'_, '_>,
     blocks: &[Block],
-) -> Result<u64, AllocError> {
-    let mut warned = Vec::new(alloc);
-    add_of_blocks(alloc, blocks, &mut warned)?;
-    if let Ok(templates) = Templates::new(alloc, blocks) {
-        add_of_templates(alloc, &templates, &mut warned)?;
-    }
-    warned.sort_by_key(|one| one.place)?;
-    push_all(alloc, text, form, blocks, warned.as_slice())
+) -> Result<u64, AllocError>
+    ensures { IfOk result (IsOfFaulty form.entry blocks.now) }
+{
+    let warned = warned_of_blocks(alloc, form, blocks)?;
+    let count = push_all(alloc, text, form, blocks, warned)?;
+    Ok(count)
+}
+
+/// Adds the warnings of blocks that have this configuration, in file order, and counts them.
+fn push_of_config(
+    alloc: Global,
+    text: &mut Vec<u8>,
+    form: Form<'_, '_>,
+    blocks: &[Block],
+    config: &Config,
+) -> Result<u64, AllocError>
+    requires { IsAccepted config.now }
+    ensures { IfOk result (IsOfConfig form.entry blocks.now config.now) }
+{
+    let Ok(templates) = Templates::new(alloc, blocks) else {
+        return Err(AllocError);
+    };
+    let warned = warned_of_config(alloc, form, &templates, config)?;
+    let count = push_all(alloc, text, form, blocks, warned)?;
+    Ok(count)
 }
 
 /// Adds the warnings of a text that has this configuration, in file order, and counts them.
@@ -212,17 +274,13 @@ pub(crate) fn push_of_text(
     config: &Config,
 ) -> Result<u64, AllocError>
     requires { IsAccepted config.now }
+    ensures { IfOk result (IsOfText form.entry object_text.now config.now) }
 {
-    let Ok(blocks) = read(alloc, object_text) else {
-        return Err(AllocError);
-    };
-    let Ok(templates) = Templates::new(alloc, blocks.as_slice()) else {
-        return Err(AllocError);
-    };
-    let mut warned = Vec::new(alloc);
-    add_of_blocks(alloc, blocks.as_slice(), &mut warned)?;
-    add_of_templates(alloc, &templates, &mut warned)?;
-    add_of_config(alloc, form, &templates, config, &mut warned)?;
-    warned.sort_by_key(|one| one.place)?;
-    push_all(alloc, text, form, blocks.as_slice(), warned.as_slice())
+    match read(alloc, object_text) {
+        Ok(blocks) => {
+            let count = push_of_config(alloc, text, form, blocks.as_slice(), config)?;
+            Ok(count)
+        }
+        Err(_) => Err(AllocError),
+    }
 }

@@ -1,5 +1,5 @@
 use Rattle.std.proofs.Common.{◌≤◌}
-use Rattle.site_check.proofs.checking.line_at.Given as goal
+use Rattle.site_check.proofs.lines.line_at.Given as goal
 
 -- The line begins among the bytes so far.
 abbrev pub invariant-loop-at : goal.invariant-loop-at

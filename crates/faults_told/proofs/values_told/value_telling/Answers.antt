@@ -1,0 +1,5 @@
+use Rattle.std.proofs.Common.{refl}
+use Rattle.faults_told.proofs.values_told.value_telling.Goals as goal
+
+pub returns : goal.returns
+returns c = record { fault = c.row_fault-fault.ensures; held = refl; used = refl; beside = refl }

@@ -1,0 +1,4 @@
+pub mod Words
+pub mod Located
+pub mod Faults
+pub mod Forms
