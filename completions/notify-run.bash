@@ -4,27 +4,28 @@ _notify_run() {
     COMPREPLY=()
     for it in "${COMP_WORDS[@]:1:COMP_CWORD-1}"; do
         case "$it" in
-            replay | trace | run | who | diff | why)
+            replay | trace | run | who | diff | why | check)
                 command="$it"
                 break
                 ;;
         esac
     done
     case "$command $before" in
-        "replay --objects" | "replay --picture" | "replay --zone-file" | "trace --zone-file" | "run --objects" | "run --log" | "run --metrics" | "run --feed" | "run --zone-file" | "who --objects" | "who --zone-file" | "diff --objects" | "diff --with" | "diff --zone-file" | "why --objects" | "why --zone-file")
+        "replay --objects" | "replay --picture" | "replay --zone-file" | "trace --zone-file" | "run --objects" | "run --log" | "run --metrics" | "run --feed" | "run --zone-file" | "who --objects" | "who --zone-file" | "diff --objects" | "diff --with" | "diff --zone-file" | "why --objects" | "why --zone-file" | "check --objects" | "check --zone-file")
             mapfile -t COMPREPLY < <(compgen -f -- "$word")
             return
             ;;
-        "replay --only" | "replay --object" | "replay --contact" | "replay --zone" | "trace --deciders" | "trace --standbys" | "trace --queue" | "trace --tries" | "trace --zone" | "run --deciders" | "run --queue" | "run --tries" | "run --timeout" | "run --pause" | "run --ahead" | "run --zone" | "who --at" | "who --for" | "who --down" | "who --zone" | "diff --zone" | "why --object" | "why --contact" | "why --from" | "why --to" | "why --zone") return ;;
+        "replay --only" | "replay --object" | "replay --contact" | "replay --zone" | "trace --deciders" | "trace --standbys" | "trace --queue" | "trace --tries" | "trace --zone" | "run --deciders" | "run --queue" | "run --tries" | "run --timeout" | "run --pause" | "run --ahead" | "run --zone" | "who --at" | "who --for" | "who --down" | "who --zone" | "diff --zone" | "why --object" | "why --contact" | "why --from" | "why --to" | "why --zone" | "check --allow" | "check --zone") return ;;
     esac
     case "$command" in
-        "") words="replay trace run who diff why -h --help -V --version" ;;
+        "") words="replay trace run who diff why check -h --help -V --version" ;;
         replay) words="--objects --only --object --contact --json --pretty --picture --zone --zone-file -h --help" ;;
         trace) words="--deciders --standbys --queue --tries --zone --zone-file -h --help" ;;
         run) words="--objects --deciders --queue --tries --timeout --pause --ahead --log --fold --metrics --json --quiet --feed --follow --clock --zone --zone-file -h --help" ;;
         who) words="--objects --at --for --down --json --zone --zone-file -h --help" ;;
         diff) words="--objects --with --json --zone --zone-file -h --help" ;;
         why) words="--objects --object --contact --from --to --json --zone --zone-file -h --help" ;;
+        check) words="--objects --allow --strict --json --zone --zone-file -h --help" ;;
     esac
     mapfile -t COMPREPLY < <(compgen -W "$words" -- "$word")
 }

@@ -362,6 +362,11 @@ class Configuration(Checked):
             self.period(place, "notification_period", on and on.period), self.number(place, "notification_interval", on.interval if on else 30),
             self.number(place, "first_notification_delay", 0), own if own is not None else on.contacts if on else []))
 
+    def places_of(self, number):
+        """Where the block of an object stands, and the block of its host, which is a host's own."""
+        key = next(key for key, found in self.numbers.items() if found == number)
+        return key if isinstance(key, tuple) else (key, key)
+
     def find(self, host, description=None):
         """The number of a host, or of its service of this description; none where there is none."""
         return self.found.get((host, description))

@@ -23,6 +23,7 @@ class Directive:
     name: str
     value: str
     has_colon: bool
+    line: int
 
 
 @dataclass
@@ -71,11 +72,11 @@ def directive(kind, text, line):
     is_day_line = kind == "timeperiod" and (words[0] in DAY_WORDS or words[0][0] in "0123456789")
     if is_day_line and len(words) > 1 and ":" not in words[0]:
         place = with_colon[0] if with_colon else len(words)
-        return Directive(" ".join(words[:place]), "".join(words[place:]), bool(with_colon))
+        return Directive(" ".join(words[:place]), "".join(words[place:]), bool(with_colon), line)
     value = text[len(words[0]):].strip(BLANKS)
     if not value:
         raise Refused("NoValue", line)
-    return Directive(words[0], value, bool(with_colon))
+    return Directive(words[0], value, bool(with_colon), line)
 
 
 def read(data):

@@ -128,6 +128,11 @@ class Site:
         """What `ask` finds of the first template of which it finds something."""
         return next((found for found in map(ask, self.above(place)) if found is not None), None)
 
+    def line(self, place, name):
+        """The line of the directive that gives what the block has: its own, or that of a template; none where nothing gives it."""
+        lines = [it.line for it in self.blocks[place].directives if it.name == name]
+        return lines[-1] if lines else self.first_above(place, lambda other: self.line(other, name))
+
     def value(self, place, name):
         own = self.own(place, name)
         return own if own is not None else self.first_above(place, lambda other: self.value(other, name))

@@ -4,13 +4,22 @@ from who import fields, of_escalations
 FILTERS = ["Program", "Disabled", "Downtime", "Flapping", "Options", "NoProblem", "Period", "Dependency", "Acknowledged", "FirstDelay", "Interval"]
 LAST = 32_503_679_999
 LETTERS = {"host": "du", "service": "wuc"}
+# The directive by which a filter of an object goes, and that of a contact, after the kind of the object; and what a service takes from its host.
+DIRECTIVES = {"Disabled": "notifications_enabled", "Options": "notification_options", "Period": "notification_period", "FirstDelay": "first_notification_delay",
+              "Interval": "notification_interval"}
+RIGHTS = {"ContactDisabled": "notifications_enabled", "ContactOptions": "notification_options", "ContactPeriod": "notification_period"}
+OF_HOST = ("Period", "Interval")
+
+
+def behind(place):
+    return f"  {place}" if place else ""
 
 
 class Reasons:
-    """Writes of the attempts on an object, given its number, how a moment is shown, and the contact that is asked for, if one is."""
+    """Writes of the attempts on an object, given its number, how a moment is shown, the contact that is asked for, if one is, and the file of the object text."""
 
-    def __init__(self, configuration, number, contact, local):
-        self.configuration, self.number, self.contact, self.local = configuration, number, contact, local
+    def __init__(self, configuration, number, contact, local, file):
+        self.configuration, self.number, self.contact, self.local, self.file = configuration, number, contact, local, file
         self.object, self.text, self.row, self.attempt = configuration.objects[number], "", [], []
 
     def period(self, number):
@@ -29,6 +38,19 @@ class Reasons:
     def contact_value(self, person, name):
         rights = self.configuration.people[person].rights[self.object.kind]
         return name + {"ContactOptions": f" notification_options{self.letters(rights.options)}", "ContactPeriod": f" notification_period {self.period(rights.period)}"}.get(name, "")
+
+    def line(self, places, directive):
+        """The line that gives the directive to the first of the places that has it; none where none has."""
+        lines = [self.configuration.line(place, directive) for place in places]
+        return next((f"{self.file}:{line}" for line in lines if line is not None), None)
+
+    def place(self, name):
+        """Where the value stands that a filter of the object goes by, if it is known."""
+        own, host = self.configuration.places_of(self.number)
+        return self.line([own, host] if name in OF_HOST else [own], DIRECTIVES[name]) if name in DIRECTIVES else None
+
+    def contact_place(self, person, name):
+        return self.line([self.configuration.of("contact")[person]], f"{self.object.kind}_{RIGHTS[name]}")
 
     def head(self, of, number, passed):
         notice = f", notice {number}" if number != "-" else ""
@@ -59,7 +81,7 @@ class Reasons:
             if not self.row or any(of[name] != self.row[-1][name] for name in ("kind", "state", "filter")):
                 self.close()
                 self.head(of, "-", FILTERS[: FILTERS.index(of["filter"])])
-                self.text += f"    stopped      {self.value(of['filter'])}\n"
+                self.text += f"    stopped      {self.value(of['filter'])}{behind(self.place(of['filter']))}\n"
             self.row.append(of)
             return
         if not self.attempt or self.attempt[-1]["event"] != of["event"]:
@@ -72,18 +94,19 @@ class Reasons:
             self.text += f"    told         {of['contact']}  {of['command']}\n"
         else:
             person = [it.name for it in self.configuration.people].index(of["contact"])
-            self.text += f"    refused      {of['contact']}  {self.contact_value(person, of['filter'])}\n"
+            self.text += f"    refused      {of['contact']}  {self.contact_value(person, of['filter'])}{behind(self.contact_place(person, of['filter']))}\n"
 
 
 class Objects(Reasons):
     """The same as objects of JSON: each a list of its members in order. What a line of the report gives is that line itself."""
 
-    def __init__(self, configuration, number, contact):
-        super().__init__(configuration, number, contact, str)
+    def __init__(self, configuration, number, contact, file):
+        super().__init__(configuration, number, contact, str, file)
         self.made = []
 
     def tried(self, of, passed, stopped):
-        self.made.append([("letter", "A"), ("event", int(of["event"])), ("passed", [self.value(name) for name in passed]), ("stopped", stopped and self.value(stopped))])
+        self.made.append([("letter", "A"), ("event", int(of["event"])), ("passed", [self.value(name) for name in passed]), ("stopped", stopped and self.value(stopped)),
+                          ("at", stopped and self.place(stopped))])
 
     def close(self):
         for name, reason in self.missing():
@@ -110,10 +133,10 @@ def in_span(lines, name, begin, end):
     return [it for it in of if int(it["moment"]) < begin], [it for it in of if begin <= int(it["moment"]) <= end]
 
 
-def why(configuration, lines, number, name, contact, begin, end, local):
-    """What is written of the lines of a report, of the object of a number and a name, from one moment up to another, either of which may be none."""
+def why(configuration, lines, number, name, contact, begin, end, local, file):
+    """What is written of the lines of a report, of the object of a number and a name, from one moment up to another, either of which may be none, given the file of the object text."""
     before, within = in_span(lines, name, begin or 0, LAST if end is None else end)
-    reasons = Reasons(configuration, number, contact, local)
+    reasons = Reasons(configuration, number, contact, local, file)
     for of in within:
         reasons.add(of)
     reasons.close()
@@ -124,9 +147,9 @@ def why(configuration, lines, number, name, contact, begin, end, local):
     return f"no attempt on {name}{span}{last}\n"
 
 
-def why_json(configuration, lines, number, name, contact, begin, end):
+def why_json(configuration, lines, number, name, contact, begin, end, file):
     """The same as JSON: the fields of a line of the report, or the members of another object in order."""
-    objects = Objects(configuration, number, contact)
+    objects = Objects(configuration, number, contact, file)
     for of in in_span(lines, name, begin or 0, LAST if end is None else end)[1]:
         objects.add(of)
     objects.close()

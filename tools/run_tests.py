@@ -14,8 +14,8 @@ from concurrent.futures import ThreadPoolExecutor
 
 COUNTED = re.compile(r"(?m)^(\d+) passed, (\d+) failed$")
 LONGEST = ["growths", "planted-edits", "launcher", "devices", "schedules", "scale", "hostile"]
-# It takes all processors and their memory.
-ALONE = ["wrong-bodies"]
+# The first measures how long things take; the other takes all processors and their memory.
+ALONE = ["waits", "wrong-bodies"]
 telling = threading.Lock()
 
 
@@ -47,7 +47,7 @@ def place(script):
 
 
 def main(lanes, *scripts):
-    alone = [it for it in scripts if os.path.basename(it) in ALONE]
+    alone = sorted((it for it in scripts if os.path.basename(it) in ALONE), key=lambda it: ALONE.index(os.path.basename(it)))
     with ThreadPoolExecutor(int(lanes)) as pool:
         came = list(pool.map(run, sorted((it for it in scripts if it not in alone), key=place)))
     came += map(run, alone)

@@ -1,3 +1,4 @@
 pub mod Options
+pub mod Check
 pub mod Why
 pub mod Words

@@ -14,6 +14,7 @@ use Rattle.steps.specs.declared.settings.Settings.{Settings}
 use Rattle.steps.specs.Settings.{AreSettings, max_channels}
 use Rattle.clap.specs.declared.builder.action.ArgAction.TheVariants.{Append}
 use Rattle.clap.specs.declared.builder.value_parser.ValueParser.TheVariants.{Signed}
+use Rattle.command_line.specs.Check.{check_words, IsCheckOf, LacksCheck}
 use Rattle.command_line.specs.Why.{IsWhyOf, LacksWhy, why_words}
 pub use Rattle.command_line.specs.Options.{flag_option, IsFlag, text_option, with_zone}
 use Rattle.command_line.specs.declared.words.FeedWords.{FeedWords}
@@ -23,7 +24,7 @@ use Rattle.command_line.specs.declared.words.ShownWords.{ShownWords}
 use Rattle.command_line.specs.declared.words.TryTimes.{TryTimes}
 use Rattle.command_line.specs.declared.words.WhoWords.{WhoWords}
 use Rattle.command_line.specs.declared.words.ZoneWords.{ZoneWords}
-use Rattle.command_line.specs.declared.words.Request.TheVariants.{Replay, Trace, Run, Who, Diff, Why}
+use Rattle.command_line.specs.declared.words.Request.TheVariants.{Replay, Trace, Run, Who, Diff, Why, Check}
 
 -- the name of the command that is asked for
 abbrev pub request_name : Request → List ℕ
@@ -33,6 +34,7 @@ request_name (Run objects settings zone channels times quiet ahead log feed) = c
 request_name (Who objects zone asked) = codes "who"
 request_name (Diff objects changed zone json) = codes "diff"
 request_name (Why objects zone asked) = codes "why"
+request_name (Check zone asked) = codes "check"
 
 -- in a trace fewer channels stand by than a lane may have
 abbrev pub AreSettingsFit : Request → Type 0
@@ -42,6 +44,7 @@ AreSettingsFit (Run objects settings zone channels times quiet ahead log feed) =
 AreSettingsFit (Who objects zone asked) = Unit {0}
 AreSettingsFit (Diff objects changed zone json) = Unit {0}
 AreSettingsFit (Why objects zone asked) = Unit {0}
+AreSettingsFit (Check zone asked) = Unit {0}
 
 -- the texts that the options of a command hold of the zone
 pub record IsZoneOf (options : Found) (words : ZoneWords) : Type 0 where
@@ -141,6 +144,10 @@ DiffLacks options = is_some (first_value options (codes "objects")) ≡ true
 abbrev pub WhyLacks : Found → Type 0
 WhyLacks options = is_some (first_value options (codes "objects")) ≡ true → LacksWhy options
 
+-- The options of `check` make no request: they name no file.
+abbrev pub CheckLacks : Found → Type 0
+CheckLacks options = LacksCheck options
+
 -- The options of `run` make no request: they name no file, or the numbers that they hold are no settings or no times.
 abbrev pub RunLacks : Found → Type 0
 RunLacks options = (deciders : ℕ) → is_some (first_value options (codes "objects")) ≡ true
@@ -175,6 +182,7 @@ IsRequestOf options (Diff objects changed zone json) =
 IsRequestOf options (Why objects zone asked) =
     (Some objects.now ≡ first_value options (codes "objects")) × IsZoneOf options zone
     × IsWhyOf options asked
+IsRequestOf options (Check zone asked) = IsZoneOf options zone × IsCheckOf options asked
 
 -- it is what the command that was met asks, with its options
 abbrev pub IsAskedBy : ArgMatches → Request → Type 0
@@ -195,6 +203,7 @@ request_zone (Run objects settings zone channels times quiet ahead log feed) = z
 request_zone (Who objects zone asked) = zone
 request_zone (Diff objects changed zone json) = zone
 request_zone (Why objects zone asked) = zone
+request_zone (Check zone asked) = zone
 
 -- it says how a file is read as the feed, and names none
 abbrev pub lacks_feed : Request → Bool
@@ -205,6 +214,11 @@ lacks_feed (Run objects settings zone channels times quiet ahead log feed) =
 lacks_feed (Who objects zone asked) = false
 lacks_feed (Diff objects changed zone json) = false
 lacks_feed (Why objects zone asked) = false
+lacks_feed (Check zone asked) = false
+
+-- it gives a rule, or a file
+abbrev pub is_given : ZoneWords → Bool
+is_given words = is_some words.rule || is_some words.file
 
 -- it gives a rule and a file
 abbrev pub AreTwo : ZoneWords → Type 0
@@ -227,6 +241,7 @@ asks_two_forms (Run objects settings zone channels times quiet ahead log feed) =
 asks_two_forms (Who objects zone asked) = false
 asks_two_forms (Diff objects changed zone json) = false
 asks_two_forms (Why objects zone asked) = false
+asks_two_forms (Check zone asked) = false
 
 -- a line of a report begins with this letter: N, S, C or R
 abbrev pub is_line_letter : ℕ → Bool
@@ -244,6 +259,7 @@ asks_bad_letters (Run objects settings zone channels times quiet ahead log feed)
 asks_bad_letters (Who objects zone asked) = false
 asks_bad_letters (Diff objects changed zone json) = false
 asks_bad_letters (Why objects zone asked) = false
+asks_bad_letters (Check zone asked) = false
 
 -- `--NAME NUMBER`, with a number from `least` to `most`, or with `default` where it is left out
 abbrev pub number_option : (name default : List ℕ) → (least most : ℕ) → Rule
@@ -374,5 +390,5 @@ program_words = record {
     subcommand_required = true;
     arg_required_else_help = true;
   };
-  subs = replay_words.top ∷ trace_words.top ∷ run_words.top ∷ who_words.top ∷ diff_words.top ∷ why_words.top ∷ [];
+  subs = replay_words.top ∷ trace_words.top ∷ run_words.top ∷ who_words.top ∷ diff_words.top ∷ why_words.top ∷ check_words.top ∷ [];
 }

@@ -3,8 +3,9 @@
 ghost use Rattle.std.specs.Prelude.{◌≡◌, codes, IfNone, IfOk, IfSome, is_some, Some, true};
 ghost use Rattle.clap.specs.Words.{app_of, subcommand_name_of};
 ghost use Rattle.command_line.specs.Words.{AreSettingsFit, IsAskedBy, IsMetWith, RunLacks, WhoLacks};
-ghost use Rattle.command_line.specs.Words.{DiffLacks, TraceLacks, WhyLacks, program_words, request_name};
+ghost use Rattle.command_line.specs.Words.{CheckLacks, DiffLacks, TraceLacks, WhyLacks, program_words, request_name};
 
+use crate::check::{check_command, check_request};
 use crate::diff::{diff_command, diff_request};
 use crate::replay::{replay_command, replay_request};
 use crate::run::{run_command, run_request};
@@ -47,7 +48,8 @@ pub fn command<'a>(alloc: Global) -> Result<Command<'a>, AllocError>
         .subcommand(run_command(alloc)?)?
         .subcommand(who_command(alloc)?)?
         .subcommand(diff_command(alloc)?)?
-        .subcommand(why_command(alloc)?)
+        .subcommand(why_command(alloc)?)?
+        .subcommand(check_command(alloc)?)
 }
 
 /// What a command line that was read asks.
@@ -68,6 +70,8 @@ pub fn request_of<'m, 'a>(matches: &'m ArgMatches<'a>) -> Option<Request<'m, 'a>
         → IsMetWith matches.now (codes "diff") DiffLacks) }
     ensures why { IfNone result (subcommand_name_of matches.now ≡ Some (codes "why")
         → IsMetWith matches.now (codes "why") WhyLacks) }
+    ensures check { IfNone result (subcommand_name_of matches.now ≡ Some (codes "check")
+        → IsMetWith matches.now (codes "check") CheckLacks) }
 {
     match matches.subcommand() {
         Some(("replay", options)) => Some(replay_request(options)),
@@ -76,6 +80,7 @@ pub fn request_of<'m, 'a>(matches: &'m ArgMatches<'a>) -> Option<Request<'m, 'a>
         Some(("who", options)) => who_request(options),
         Some(("diff", options)) => diff_request(options),
         Some(("why", options)) => why_request(options),
+        Some(("check", options)) => check_request(options),
         _ => None,
     }
 }

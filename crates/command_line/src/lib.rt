@@ -2,6 +2,7 @@
 #![tactic(auto)]
 
 mod asked;
+pub mod check;
 mod diff;
 mod options;
 mod replay;
@@ -12,5 +13,6 @@ pub mod why;
 pub mod words;
 
 pub use asked::{command, request_of};
+pub use check::CheckWords;
 pub use why::WhyWords;
 pub use words::{FeedWords, LogWords, Request, ShownWords, WhoWords, ZoneWords};

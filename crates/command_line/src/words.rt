@@ -4,9 +4,10 @@ ghost use Rattle.std.specs.Prelude.{◌≡◌};
 ghost use Rattle.std.specs.List.{list_all};
 ghost use Rattle.std.specs.Option.{option_copied};
 ghost use Rattle.command_line.specs.Words.{has_bad_letters, asks_bad_letters, asks_two_forms, has_two_forms};
-ghost use Rattle.command_line.specs.Words.{is_line_letter, is_plain, lacks_feed};
+ghost use Rattle.command_line.specs.Words.{is_given, is_line_letter, is_plain, lacks_feed};
 ghost use Rattle.command_line.specs.Words.{request_zone};
 
+use crate::check::CheckWords;
 use crate::why::WhyWords;
 use steps::Settings;
 
@@ -179,6 +180,20 @@ pub enum Request<'m, 'a> {
         zone: ZoneWords<'a>,
         asked: WhyWords<'a>,
     },
+    /// The faults of the object text in the files, and its warnings.
+    Check {
+        zone: ZoneWords<'a>,
+        asked: CheckWords<'m, 'a>,
+    },
+}
+
+impl ZoneWords<'_> {
+    /// Whether it says anything of the zone.
+    pub fn is_given(self) -> bool
+        ensures { result ≡ is_given self.entry }
+    {
+        self.rule.is_some() || self.file.is_some()
+    }
 }
 
 impl<'a> Request<'_, 'a> {
@@ -193,6 +208,7 @@ impl<'a> Request<'_, 'a> {
             Request::Who { zone, .. } => zone,
             Request::Diff { zone, .. } => zone,
             Request::Why { zone, .. } => zone,
+            Request::Check { zone, .. } => zone,
         }
     }
 

@@ -2,7 +2,8 @@
 
 ghost use Rattle.std.specs.Prelude.{◌≡◌, ◌++◌, OnOk};
 ghost use Rattle.line_forms.specs.Json.{string_json};
-ghost use Rattle.filter_values.specs.Tried.{first_json, passed_json, passed_json_at, stop_json, stopped_json, tried_json};
+ghost use Rattle.filter_values.specs.Tried.{at_json, first_json, known_json, passed_json, passed_json_at};
+ghost use Rattle.filter_values.specs.Tried.{stop_json, stopped_json, tried_json};
 ghost use Rattle.filter_values.specs.Values.{filter_text};
 
 use crate::values::{filter_at, push_decimal, push_filter};
@@ -79,7 +80,7 @@ fn push_passed(
     text.extend_from_slice(b"]")
 }
 
-/// Adds a filter that stopped it as the last member, and the end of the object.
+/// Adds a filter that stopped it as a member.
 #[tactic(auto, unfolding(crate::specs::Tried::stop_json))]
 fn push_stop(
     alloc: Global,
@@ -93,7 +94,7 @@ fn push_stop(
 {
     text.extend_from_slice(b",\"stopped\":")?;
     push_filter_string(alloc, text, config, object, filter)?;
-    text.extend_from_slice(b"}\n")
+    Ok(())
 }
 
 /// Adds the one that stopped it, null where none did.
@@ -108,13 +109,33 @@ fn push_stopped(
         (text.new.items ≡ text.old.items ++ stopped_json config.now object.0 filter) }
 {
     match filter {
-        None => text.extend_from_slice(b",\"stopped\":null}\n"),
+        None => text.extend_from_slice(b",\"stopped\":null"),
         Some(filter) => push_stop(alloc, text, config, object, filter),
     }
 }
 
-/// Adds what was tried of the attempt of an event: the filters that passed, so many, and the one that stopped it, if one did. A refused
-/// growth is the only error.
+/// Adds where the value stands that it goes by as the last member, and the end of the object.
+#[tactic(auto, unfolding(crate::specs::Tried::known_json))]
+fn push_known(text: &mut Vec<u8>, at: &[u8]) -> Result<(), AllocError>
+    ensures { OnOk result (text.new.items ≡ text.old.items ++ known_json at.now) }
+{
+    text.extend_from_slice(b",\"at\":")?;
+    push_string(text, at)?;
+    text.extend_from_slice(b"}\n")
+}
+
+/// The same, null where that isn't known.
+fn push_at(text: &mut Vec<u8>, at: &[u8]) -> Result<(), AllocError>
+    ensures { OnOk result (text.new.items ≡ text.old.items ++ at_json at.now) }
+{
+    let [_, ..] = at else {
+        return text.extend_from_slice(b",\"at\":null}\n");
+    };
+    push_known(text, at)
+}
+
+/// Adds what was tried of the attempt of an event: the filters that passed, so many, and the one that stopped it, if one did, with
+/// the place where its value stands, which is empty where that isn't known. A refused growth is the only error.
 #[tactic(auto, unfolding(crate::specs::Tried::tried_json))]
 pub fn push_tried(
     alloc: Global,
@@ -124,12 +145,14 @@ pub fn push_tried(
     object: ObjectId,
     count: usize,
     filter: Option<Filter>,
+    at: &[u8],
 ) -> Result<(), AllocError>
     ensures { OnOk result (text.new.items
-        ≡ text.old.items ++ tried_json config.now event object.0 count filter) }
+        ≡ text.old.items ++ tried_json config.now event object.0 count filter at.now) }
 {
     text.extend_from_slice(b"{\"letter\":\"A\",\"event\":")?;
     push_decimal(text, event)?;
     push_passed(alloc, text, config, object, count)?;
-    push_stopped(alloc, text, config, object, filter)
+    push_stopped(alloc, text, config, object, filter)?;
+    push_at(text, at)
 }

@@ -4,6 +4,7 @@ ghost use Rattle.std.specs.Prelude.{◌≡◌};
 ghost use Rattle.std.specs.Process.{exit_status};
 ghost use Rattle.texts_compared.specs.Fault.{compare_status};
 
+use crate::faults::say_more;
 use crate::pretty::row_form;
 use changed_notices::ChangeForm;
 use command_output::{AnyWriter, CommandFault, Ending};
@@ -14,12 +15,24 @@ use text_lines::AnyReader;
 use texts_compared::{CompareFault, compare_files, compare_status};
 use who_missed::RowForm;
 
-/// Says on standard error what a comparison failed with, if it did, and gives its exit status.
-fn status_of_comparison<R: Eprint>(rt: &R, outcome: Result<Ending, CompareFault>) -> ExitCode
+/// Says on standard error what a comparison failed with, if it did, and where or why, and gives its exit status.
+fn status_of_comparison(
+    rt: &HostRuntime,
+    objects: &str,
+    changed: &str,
+    outcome: Result<Ending, CompareFault>,
+) -> ExitCode
     ensures { exit_status result ≡ compare_status outcome }
 {
     if let Err(fault) = outcome {
         let _ = rt.eprintln(format_args!("{fault}"));
+        match fault {
+            CompareFault::Command(command_fault) => say_more(rt, objects, command_fault),
+            CompareFault::With(load_fault) => {
+                say_more(rt, changed, CommandFault::Objects(load_fault));
+            }
+            CompareFault::WithUnreadable => say_more(rt, changed, CommandFault::Unreadable),
+        }
     }
     ExitCode::from(compare_status(outcome))
 }
@@ -58,5 +71,6 @@ pub(crate) fn status_of_diff(
         RowForm::Pretty(coloured) => ChangeForm::Pretty(coloured),
         RowForm::Json => ChangeForm::Json,
     };
-    status_of_comparison(rt, do_diff(rt, zone, objects, changed, form))
+    let outcome = do_diff(rt, zone, objects, changed, form);
+    status_of_comparison(rt, objects, changed, outcome)
 }

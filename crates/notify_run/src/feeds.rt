@@ -1,13 +1,14 @@
 //! The runs of a feed: of standard input, and of a file.
 
+use crate::faults::say_more_of_run;
 use crate::{out_of_memory, status_of_run};
 use command_line::{FeedWords, LogWords};
-use command_output::AnyWriter;
+use command_output::{AnyWriter, Ending};
 use due_model::zone::Zone;
 use feed_file::{Feed, FeedFile, FeedWays};
 use json_report::{JsonWriter, ReportWriter};
 use run_devices::{
-    FeedTimes, LogPlace, LoggedWords, MeteredFeed, MetricsPlace, RunSettings, RunWords,
+    FeedTimes, LogPlace, LoggedWords, MeteredFeed, MetricsPlace, RunFault, RunSettings, RunWords,
     do_logged_run, do_run,
 };
 use std::alloc::{AllocError, Global};
@@ -89,26 +90,37 @@ pub(crate) fn status_of_feed<T: Threads + Wait + Clock + Sync>(
     let Ok(opened) = noted_feed(opened, metrics) else {
         return out_of_memory(rt);
     };
+    let words = RunWords {
+        objects,
+        channels,
+        metrics,
+    };
+    status_of_opened(rt, threads, zone, words, settings, log, opened)
+}
+
+/// Does a run of a feed that was opened, and gives its exit status.
+fn status_of_opened<T: Threads + Wait + Clock + Sync>(
+    rt: &HostRuntime,
+    threads: &T,
+    zone: &Zone,
+    words: RunWords<'_, '_>,
+    settings: RunSettings,
+    log: LogWords<'_>,
+    opened: RunFeed,
+) -> ExitCode {
     let mut writer = writer_of(rt, zone, log.json);
     match log.file {
         Some(file) => {
             let fold = log.fold;
             let words = LoggedWords {
-                objects,
-                channels,
+                objects: words.objects,
+                channels: words.channels,
                 log: LogPlace { file, fold },
-                metrics,
+                metrics: words.metrics,
             };
             status_of_logged(rt, threads, zone, words, settings, opened, &mut writer)
         }
-        None => {
-            let words = RunWords {
-                objects,
-                channels,
-                metrics,
-            };
-            status_of_new(rt, threads, zone, words, settings, opened, &mut writer)
-        }
+        None => status_of_new(rt, threads, zone, words, settings, opened, &mut writer),
     }
 }
 
@@ -123,7 +135,8 @@ fn status_of_logged<T: Threads + Wait + Clock + Sync>(
     writer: &mut RunWriter<'_>,
 ) -> ExitCode {
     let outcome = do_logged_run(rt, threads, zone, words, settings, feed, writer);
-    status_of_run(rt, outcome.map(|done| done.ending))
+    let outcome = outcome.map(|done| done.ending);
+    status_of_done(rt, words.objects, words.channels, settings, outcome)
 }
 
 /// Does a run without a log, and gives its exit status.
@@ -137,5 +150,21 @@ fn status_of_new<T: Threads + Wait + Clock + Sync>(
     writer: &mut RunWriter<'_>,
 ) -> ExitCode {
     let outcome = do_run(rt, threads, zone, words, settings, feed, writer);
-    status_of_run(rt, outcome.map(|done| done.ending))
+    let outcome = outcome.map(|done| done.ending);
+    status_of_done(rt, words.objects, words.channels, settings, outcome)
+}
+
+/// Says on standard error what a run failed with, if it did, and why, and gives its exit status.
+fn status_of_done(
+    rt: &HostRuntime,
+    objects: &str,
+    channels: Option<&[&str]>,
+    settings: RunSettings,
+    outcome: Result<Ending, RunFault<'_>>,
+) -> ExitCode {
+    let status = status_of_run(rt, outcome);
+    if let Err(fault) = outcome {
+        say_more_of_run(rt, objects, channels, settings, fault);
+    }
+    status
 }

@@ -12,7 +12,9 @@ ghost use Rattle.notify_run.specs.Zones.{IsBadRule};
 ghost use Rattle.run_devices.specs.Fault.{run_status};
 ghost use Rattle.steps.specs.Settings.{max_channels};
 
+mod check;
 mod diff;
+mod faults;
 mod feeds;
 mod picture;
 mod pretty;
@@ -20,11 +22,13 @@ mod who;
 mod why;
 mod zones;
 
+use check::status_of_check;
 use clap::error::ErrorKind;
 use command_line::{Request, ShownWords, command, request_of};
 use command_output::{AnyWriter, CommandFault, Ending, exit_status};
 use diff::status_of_diff;
 use due_model::zone::Zone;
+use faults::{say_more, say_more_of_input};
 use feeds::status_of_feed;
 use line_forms::Picks;
 use picture::status_of_picture;
@@ -56,6 +60,22 @@ pub(crate) fn status_of<R: Eprint>(rt: &R, outcome: Result<Ending, CommandFault>
         let _ = rt.eprintln(format_args!("{fault}"));
     }
     ExitCode::from(exit_status(outcome))
+}
+
+/// The same of a command that has read the object text in the file at a path; and where the fault of it stands, or why it isn't
+/// read.
+pub(crate) fn status_at(
+    rt: &HostRuntime,
+    objects: &str,
+    outcome: Result<Ending, CommandFault>,
+) -> ExitCode
+    ensures { exit_status result ≡ outcome_status outcome }
+{
+    let status = status_of(rt, outcome);
+    if let Err(fault) = outcome {
+        say_more(rt, objects, fault);
+    }
+    status
 }
 
 /// Memory ran out before a command was known.
@@ -180,6 +200,31 @@ fn do_trace(
     trace_in(rt.alloc(), zone, settings, standbys, input, &mut writer)
 }
 
+/// The same of a command that has read it from standard input.
+fn status_of_input(rt: &HostRuntime, outcome: Result<Ending, CommandFault>) -> ExitCode
+    ensures { exit_status result ≡ outcome_status outcome }
+{
+    let status = status_of(rt, outcome);
+    if let Err(fault) = outcome {
+        say_more_of_input(rt, fault);
+    }
+    status
+}
+
+/// Says on standard error what a replay failed with, if it did, and where or why, and gives its exit status.
+fn status_of_replay(
+    rt: &HostRuntime,
+    objects: Option<&str>,
+    outcome: Result<Ending, CommandFault>,
+) -> ExitCode
+    ensures { exit_status result ≡ outcome_status outcome }
+{
+    match objects {
+        Some(path) => status_at(rt, path, outcome),
+        None => status_of_input(rt, outcome),
+    }
+}
+
 /// Says on standard error what is wrong of a command line, and gives the exit status.
 fn status_of_words<R: Eprint>(rt: &R, fault: &str) -> ExitCode
     ensures { exit_status result ≡ 2 }
@@ -211,26 +256,26 @@ fn status_in<T: Threads + Wait + Clock + Sync>(
 ) -> ExitCode
     requires { AreSettingsFit request }
 {
-    let outcome = match request {
+    let has_zone = request.zone().is_given();
+    match request {
         Request::Replay { objects, shown, .. } => match shown.picture {
-            Some(path) => return status_of_picture(rt, zone, objects, shown, path),
-            None => do_replay(rt, zone, objects, shown),
+            Some(path) => status_of_picture(rt, zone, objects, shown, path),
+            None => status_of_replay(rt, objects, do_replay(rt, zone, objects, shown)),
         },
         Request::Trace {
             settings,
             standbys,
             ..
-        } => do_trace(rt, zone, settings, standbys),
-        Request::Who { objects, asked, .. } => {
-            return status_of_who(rt, threads, zone, objects, asked);
-        }
+        } => status_of_input(rt, do_trace(rt, zone, settings, standbys)),
+        Request::Who { objects, asked, .. } => status_of_who(rt, threads, zone, objects, asked),
         Request::Diff {
             objects,
             changed,
             json,
             ..
-        } => return status_of_diff(rt, zone, objects, changed, json),
-        Request::Why { objects, asked, .. } => return status_of_why(rt, zone, objects, asked),
+        } => status_of_diff(rt, zone, objects, changed, json),
+        Request::Why { objects, asked, .. } => status_of_why(rt, zone, objects, asked),
+        Request::Check { asked, .. } => status_of_check(rt, zone, has_zone, asked),
         Request::Run {
             objects,
             settings,
@@ -249,10 +294,9 @@ fn status_in<T: Threads + Wait + Clock + Sync>(
                 quiet,
                 ahead,
             };
-            return status_of_feed(rt, threads, zone, objects, settings, channels, log, feed);
+            status_of_feed(rt, threads, zone, objects, settings, channels, log, feed)
         }
-    };
-    status_of(rt, outcome)
+    }
 }
 
 /// Does what is asked, and gives the exit status. Letters and forms of lines are looked at before the zone is read, and that before

@@ -1,7 +1,7 @@
 //! A report on standard output, and the picture of its feed in a file.
 
 use crate::pretty::has_colours;
-use crate::{out_of_memory, picks_of, shown_lines, status_of};
+use crate::{out_of_memory, picks_of, shown_lines, status_of, status_of_replay};
 use command_line::ShownWords;
 use command_output::{AnyWriter, CommandFault, Ending};
 use due_model::zone::Zone;
@@ -127,7 +127,7 @@ pub(crate) fn status_of_picture(
     line.finish();
     if outcome.is_err() {
         unfinished.remove(rt);
-        return status_of(rt, outcome);
+        return status_of_replay(rt, objects, outcome);
     }
     if let Err(fault) = unfinished.finish(rt, path, picture.text.as_slice()) {
         unfinished.remove(rt);

@@ -6,6 +6,7 @@ ghost use Rattle.due_model.specs.Limits.{last_moment};
 ghost use Rattle.notify_run.specs.Times.{IsBadLength, IsBadTime, IsNoMoment};
 ghost use Rattle.who_told.specs.Fault.{who_status};
 
+use crate::faults::say_more;
 use crate::pretty::row_form;
 use crate::{status_of, status_of_words};
 use command_line::WhoWords;
@@ -65,14 +66,21 @@ fn supposed_of<'a>(
     }
 }
 
-/// Says on standard error what it failed with, if it did, and gives its exit status.
-fn status_of_told<R: Eprint>(rt: &R, outcome: Result<Ending, WhoFault<'_>>) -> ExitCode
+/// Says on standard error what it failed with, if it did, and where or why, and gives its exit status.
+fn status_of_told(
+    rt: &HostRuntime,
+    objects: &str,
+    outcome: Result<Ending, WhoFault<'_>>,
+) -> ExitCode
     ensures { exit_status result ≡ who_status outcome.entry }
 {
     match outcome {
         Ok(ending) => status_of(rt, Ok(ending)),
         Err(fault) => {
             let _ = rt.eprintln(format_args!("{fault}"));
+            if let WhoFault::Command(command_fault) = fault {
+                say_more(rt, objects, command_fault);
+            }
             ExitCode::from(fault.status())
         }
     }
@@ -117,7 +125,10 @@ pub(crate) fn status_of_who<T: Clock>(
         return status_of_words(rt, "bad time");
     };
     match minutes_given(asked.lasting) {
-        Some(minutes) => status_of_told(rt, do_who(rt, zone, objects, asked, moment, minutes)),
+        Some(minutes) => {
+            let outcome = do_who(rt, zone, objects, asked, moment, minutes);
+            status_of_told(rt, objects, outcome)
+        }
         None => status_of_words(rt, "bad length"),
     }
 }

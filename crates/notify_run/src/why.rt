@@ -6,22 +6,24 @@ ghost use Rattle.due_model.specs.Accepted.{IsAccepted};
 ghost use Rattle.due_model.specs.Limits.{last_moment};
 ghost use Rattle.notify_run.specs.Times.{IsBadSpan, IsNoMoment};
 
+use crate::faults::file_text;
 use crate::pretty::row_form;
-use crate::{status_of, status_of_words};
-use command_input::read_object_file;
+use crate::{status_at, status_of, status_of_words};
 use command_line::WhyWords;
 use command_output::{AnyWriter, CommandFault, Ending};
-use due_model::config::Config;
+use due_model::config::{Config, ObjectId};
 use due_model::limits::LAST_MOMENT;
 use due_model::zone::Zone;
 use given_times::moment_given;
+use object_resolve::load;
 use progress::ProgressLine;
-use std::fs::File;
+use std::alloc::Global;
 use std::io::IsTerminal;
 use std::process::ExitCode;
 use text_lines::AnyReader;
+use value_places::value_places;
 use who_told::object_parts;
-use why_told::{Asked, why};
+use why_told::{Asked, Places, why};
 
 /// The moment that a text says, or this one where there is no text. None where the text says none.
 fn moment_or(zone: &Zone, text: Option<&str>, otherwise: u64) -> Option<u64>
@@ -38,24 +40,45 @@ fn moment_or(zone: &Zone, text: Option<&str>, otherwise: u64) -> Option<u64>
     }
 }
 
-/// The configuration of the object text in a file.
-fn config_in(rt: &HostRuntime, objects: &str) -> Result<Config, CommandFault>
-    ensures { IfOk result IsAccepted }
-{
-    let Ok(file) = File::open(rt, objects) else {
-        return Err(CommandFault::Unreadable);
-    };
-    read_object_file(rt.alloc(), AnyReader::new(file))
+/// A configuration, and where the values stand that it gives one of its objects.
+#[derive(Drop)]
+struct Known {
+    config: Config,
+    places: Places,
 }
 
-/// Whether the configuration has an object of that name.
-fn is_known(config: &Config, name: &str) -> bool {
+/// The configuration of object text.
+fn config_of(alloc: Global, text: &[u8]) -> Result<Config, CommandFault>
+    ensures { IfOk result IsAccepted }
+{
+    let copy = Vec::from_slice(alloc, text)?;
+    Ok(load(alloc, copy)?)
+}
+
+/// The number of the object of that name.
+fn number_of(config: &Config, name: &str) -> Option<ObjectId> {
     let (host, service) = object_parts(name);
     let service = match service {
         Some(service) => Some(service.as_bytes()),
         None => None,
     };
-    config.objects.find(host.as_bytes(), service).is_some()
+    config.objects.find(host.as_bytes(), service)
+}
+
+/// The configuration of the object text in a file, and the places for the object of that name; none where there is no such object.
+fn known_in(rt: &HostRuntime, objects: &str, name: &str) -> Result<Option<Known>, CommandFault>
+    ensures { IfOk result (λ found. IfSome found (λ known. IsAccepted known.config)) }
+{
+    let text = file_text(rt, objects)?;
+    let config = config_of(rt.alloc(), text.as_slice())?;
+    let Some(number) = number_of(&config, name) else {
+        return Ok(None);
+    };
+    let texts = value_places(rt.alloc(), objects, text.as_slice(), usize::from(number.0))?;
+    Ok(Some(Known {
+        config,
+        places: Places::new(texts),
+    }))
 }
 
 /// Writes why messages went to whom they did.
@@ -83,18 +106,33 @@ fn do_why(
     outcome
 }
 
-/// The same, where the object is known.
-fn status_of_known(rt: &HostRuntime, zone: &Zone, objects: &str, asked: Asked<'_>) -> ExitCode {
-    let config = match config_in(rt, objects) {
-        Ok(config) => config,
-        Err(fault) => return status_of(rt, Err(fault)),
+/// The same of the lines from one moment up to another, where the object is known.
+fn status_between(
+    rt: &HostRuntime,
+    zone: &Zone,
+    objects: &str,
+    words: WhyWords<'_>,
+    from: u64,
+    to: u64,
+) -> ExitCode {
+    let known = match known_in(rt, objects, words.object) {
+        Ok(Some(known)) => known,
+        Ok(None) => {
+            let name = words.object;
+            let _ = rt.eprintln(format_args!("usage: no object {name}"));
+            return ExitCode::from(2);
+        }
+        Err(fault) => return status_at(rt, objects, Err(fault)),
     };
-    if !is_known(&config, asked.object) {
-        let name = asked.object;
-        let _ = rt.eprintln(format_args!("usage: no object {name}"));
-        return ExitCode::from(2);
-    }
-    status_of(rt, do_why(rt, zone, &config, asked))
+    let asked = Asked {
+        object: words.object,
+        contact: words.contact,
+        from,
+        to,
+        form: row_form(rt, words.json),
+        places: &known.places,
+    };
+    status_of(rt, do_why(rt, zone, &known.config, asked))
 }
 
 /// Writes why messages about an object went to whom they did, and gives the exit status. Its times are looked at before anything else.
@@ -112,12 +150,5 @@ pub(crate) fn status_of_why(
     let Some(to) = moment_or(zone, words.to, LAST_MOMENT) else {
         return status_of_words(rt, "bad time");
     };
-    let asked = Asked {
-        object: words.object,
-        contact: words.contact,
-        from,
-        to,
-        form: row_form(rt, words.json),
-    };
-    status_of_known(rt, zone, objects, asked)
+    status_between(rt, zone, objects, words, from, to)
 }

@@ -1,4 +1,5 @@
 pub mod Attempts
+pub mod Places
 pub mod Rows
 pub mod Missing
 pub mod Nothing

@@ -1,9 +1,8 @@
 -- The rows of an attempt: when it is and of what, whom it goes to, who is refused, and what stopped it.
-use Rattle.std.specs.Prelude.{ℕ, Bool, true, ◌==◌, List, [], ◌∷◌, ◌++◌, codes, decimal, Option, None, Some, if◌then◌else◌}
+use Rattle.std.specs.Prelude.{ℕ, Bool, true, ◌==◌, List, [], ◌++◌, codes, decimal, Option, None, Some, if◌then◌else◌}
 use Rattle.std.specs.Option.{option_copied}
 use Rattle.std.specs.Str.{bytes_eq}
 use Rattle.due_model.specs.declared.config.Config.{Config}
-use Rattle.due_model.specs.declared.config.ContactId.{ContactId}
 use Rattle.due_model.specs.declared.notice.Kind.{Kind}
 use Rattle.due_model.specs.declared.notice.Notice.{Notice}
 use Rattle.due_model.specs.declared.notice.Suppression.{Suppression}
@@ -19,7 +18,8 @@ use Rattle.pretty_lines.specs.Columns.{paint}
 use Rattle.who_missed.specs.declared.forms.RowForm.{RowForm}
 use Rattle.who_missed.specs.Forms.{is_coloured, is_json, row_end}
 use Rattle.why_told.specs.declared.teller.Asked.{Asked}
-use Rattle.filter_values.specs.Values.{contact_filter_text, filter_text}
+use Rattle.why_told.specs.Places.{contact_place, place_text}
+use Rattle.filter_values.specs.Values.{contact_filter_text, filter_text, place_of}
 
 -- the number of a notice, where it has one
 abbrev pub notice_number : ℕ → List ℕ
@@ -55,32 +55,36 @@ told_of asked c zone n =
     if is_asked c (option_copied asked.contact) n.contact.0 then told_form asked.form c zone n
     else []
 
--- ---- by which filter a contact is refused, and the value that this goes by
+-- ---- by which filter a contact is refused, the value that this goes by, and where that stands
 
 unfoldable pub refused_row : Config → Suppression → (k : ℕ) → List ℕ
 refused_row c s k =
     codes "    refused      " ++ contact_text c k ++ codes "  "
     ++ contact_filter_text c s.object.0 k s.filter
 
-unfoldable pub refused_text : (coloured : Bool) → Config → Suppression → (k : ℕ) → List ℕ
-refused_text coloured c s k = paint coloured (codes "33") ++ refused_row c s k ++ row_end coloured
+unfoldable pub refused_text : (coloured : Bool) → (places : List (List ℕ)) → Config → Suppression → (k : ℕ) → List ℕ
+refused_text coloured places c s k =
+    paint coloured (codes "33") ++ refused_row c s k ++ place_text places (contact_place k s.filter)
+    ++ row_end coloured
 
-abbrev pub refused_form : RowForm → Config → Zone → Suppression → (k : ℕ) → List ℕ
-refused_form form c zone s k =
-    if is_json form then json_text c zone (Decided (Withheld s))
-    else refused_text (is_coloured form) c s k
+abbrev pub refused_form : Asked → Config → Zone → Suppression → (k : ℕ) → List ℕ
+refused_form asked c zone s k =
+    if is_json asked.form then json_text c zone (Decided (Withheld s))
+    else refused_text (is_coloured asked.form) asked.places.now c s k
 
 abbrev pub refused_of : Asked → Config → Zone → Suppression → (k : ℕ) → List ℕ
 refused_of asked c zone s k =
-    if is_asked c (option_copied asked.contact) k then refused_form asked.form c zone s k else []
+    if is_asked c (option_copied asked.contact) k then refused_form asked c zone s k else []
 
--- ---- by which filter the object is stopped, and the value that this goes by
+-- ---- by which filter the object is stopped, the value that this goes by, and where that stands
 
 unfoldable pub stopped_row : Config → Suppression → List ℕ
 stopped_row c s = codes "    stopped      " ++ filter_text c s.object.0 s.filter
 
-unfoldable pub stopped_text : (coloured : Bool) → Config → Suppression → List ℕ
-stopped_text coloured c s = paint coloured (codes "31") ++ stopped_row c s ++ row_end coloured
+unfoldable pub stopped_text : (coloured : Bool) → (places : List (List ℕ)) → Config → Suppression → List ℕ
+stopped_text coloured places c s =
+    paint coloured (codes "31") ++ stopped_row c s ++ place_text places (place_of s.filter)
+    ++ row_end coloured
 
 -- how a row of what a filter stopped went on after its first
 unfoldable pub more_row : Zone → (moment more : ℕ) → List ℕ

@@ -17,6 +17,7 @@ use Rattle.why_told.specs.declared.text.Attempt.{Attempt}
 use Rattle.why_told.specs.Attempts.{goes_on, has_event}
 use Rattle.why_told.specs.Missing.{missing_of}
 use Rattle.why_told.specs.Nothing.{nothing_text}
+use Rattle.why_told.specs.Places.{place_at}
 use Rattle.why_told.specs.Rows.{head_text, more_row, refused_of, stopped_text, told_of}
 use Rattle.filter_values.specs.Tried.{tried_json}
 use Rattle.filter_values.specs.Values.{passed_text, place_of}
@@ -46,29 +47,31 @@ ending_text asked c zone before current =
 -- ---- what a filter of the object stops
 
 -- its filters, and the one that stopped it
-unfoldable pub stop_rows : (coloured : Bool) → Config → Zone → Suppression → List ℕ
-stop_rows coloured c zone s =
+unfoldable pub stop_rows : (coloured : Bool) → (places : List (List ℕ)) → Config → Zone → Suppression → List ℕ
+stop_rows coloured places c zone s =
     head_text zone s.moment s.kind s.state 0 ++ passed_text c s.object.0 (place_of s.filter)
-    ++ stopped_text coloured c s
+    ++ stopped_text coloured places c s
 
 -- as JSON: its filters, and the line of the report
-unfoldable pub stop_json : Config → Zone → Suppression → List ℕ
-stop_json c zone s =
+unfoldable pub stop_json : (places : List (List ℕ)) → Config → Zone → Suppression → List ℕ
+stop_json places c zone s =
     tried_json c s.event s.object.0 (place_of s.filter) (Some s.filter)
+    (place_at places (place_of s.filter))
     ++ json_text c zone (Decided (Withheld s))
 
-abbrev pub new_stop_text : RowForm → Config → Zone → Suppression → List ℕ
-new_stop_text form c zone s =
-    if is_json form then stop_json c zone s else stop_rows (is_coloured form) c zone s
+abbrev pub new_stop_text : Asked → Config → Zone → Suppression → List ℕ
+new_stop_text asked c zone s =
+    if is_json asked.form then stop_json asked.places.now c zone s
+    else stop_rows (is_coloured asked.form) asked.places.now c zone s
 
 -- one that goes on with the row that is open: its number alone is written of it, when the row ends
-abbrev pub again_text : RowForm → Config → Zone → Suppression → List ℕ
-again_text form c zone s = if is_json form then stop_json c zone s else []
+abbrev pub again_text : Asked → Config → Zone → Suppression → List ℕ
+again_text asked c zone s = if is_json asked.form then stop_json asked.places.now c zone s else []
 
 abbrev pub stop_text : Asked → Config → Zone → Open → Suppression → List ℕ
 stop_text asked c zone current s =
-    if goes_on current s then again_text asked.form c zone s
-    else close_text asked c zone current ++ new_stop_text asked.form c zone s
+    if goes_on current s then again_text asked c zone s
+    else close_text asked c zone current ++ new_stop_text asked c zone s
 
 -- ---- an attempt that goes out
 
@@ -100,7 +103,7 @@ out_rows c zone a =
 
 abbrev pub out_text : RowForm → Config → Zone → Attempt → List ℕ
 out_text form c zone a =
-    if is_json form then tried_json c a.event a.object.0 11 None else out_rows c zone a
+    if is_json form then tried_json c a.event a.object.0 11 None [] else out_rows c zone a
 
 -- how it begins, where it isn't open
 abbrev pub begin_text : Asked → Config → Zone → Open → Attempt → List ℕ

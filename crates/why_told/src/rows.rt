@@ -6,11 +6,12 @@ ghost use Rattle.why_told.specs.Rows.{head_text, is_asked, more_row, notice_numb
 ghost use Rattle.why_told.specs.Rows.{refused_row, refused_text, stopped_row, stopped_text, told_form, told_of};
 ghost use Rattle.why_told.specs.Rows.{told_row, told_text};
 
+use crate::places::{Places, contact_place};
 use crate::teller::Asked;
 use due_model::config::{Config, ContactId};
 use due_model::notice::{Kind, Notice, Suppression};
 use due_model::state::State;
-use filter_values::{push_contact_filter, push_decimal, push_filter_after};
+use filter_values::{place_of, push_contact_filter, push_decimal, push_filter_after};
 use line_forms::{ReportLine, push_json};
 use local_text::push_local;
 use messages::entries::Entry;
@@ -153,15 +154,17 @@ fn push_refused_row(
 fn push_refused_text(
     text: &mut Vec<u8>,
     coloured: bool,
+    places: &Places,
     config: &Config,
     withheld: &Suppression,
     contact: ContactId,
 ) -> Result<(), AllocError>
-    ensures { OnOk result (text.new.items
-        ≡ text.old.items ++ refused_text coloured config.now withheld.now contact.0) }
+    ensures { OnOk result (text.new.items ≡ text.old.items
+        ++ refused_text coloured places.now config.now withheld.now contact.0) }
 {
     push_paint(text, coloured, b"33")?;
     push_refused_row(text, config, withheld, contact)?;
+    places.push(text, contact_place(contact, withheld.filter))?;
     push_row_end(text, coloured)
 }
 
@@ -176,13 +179,14 @@ fn push_refused_form(
     contact: ContactId,
 ) -> Result<(), AllocError>
     ensures { OnOk result (text.new.items ≡ text.old.items
-        ++ refused_form asked.entry.form config.now clock.now withheld.now contact.0) }
+        ++ refused_form asked.entry config.now clock.now withheld.now contact.0) }
 {
     if is_json(asked.form) {
         let line = ReportLine::Decided(Entry::Withheld(*withheld));
         push_json(alloc, text, config, clock, &line)
     } else {
-        push_refused_text(text, is_coloured(asked.form), config, withheld, contact)
+        let coloured = is_coloured(asked.form);
+        push_refused_text(text, coloured, asked.places, config, withheld, contact)
     }
 }
 
@@ -223,14 +227,16 @@ fn push_stopped_row(
 pub(crate) fn push_stopped_text(
     text: &mut Vec<u8>,
     coloured: bool,
+    places: &Places,
     config: &Config,
     stop: &Suppression,
 ) -> Result<(), AllocError>
     ensures { OnOk result
-        (text.new.items ≡ text.old.items ++ stopped_text coloured config.now stop.now) }
+        (text.new.items ≡ text.old.items ++ stopped_text coloured places.now config.now stop.now) }
 {
     push_paint(text, coloured, b"31")?;
     push_stopped_row(text, config, stop)?;
+    places.push(text, place_of(stop.filter))?;
     push_row_end(text, coloured)
 }
 

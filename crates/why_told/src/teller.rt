@@ -5,6 +5,7 @@ ghost use Rattle.why_told.specs.Attempts.{nothing_open};
 ghost use Rattle.why_told.specs.Teller.{after_other, is_before, is_between, is_early, is_of};
 
 use crate::attempts::Open;
+use crate::places::Places;
 use crate::text::{push_ending, push_line};
 use due_model::config::Config;
 use line_forms::{Picks, ReportLine};
@@ -15,7 +16,7 @@ use who_missed::RowForm;
 use zone_times::clock::ZoneClock;
 
 /// What is asked of a report: why each message about an object went to whom it did, and to nobody else.
-#[derive(Clone, Copy, Debug)]
+#[derive(Clone, Copy)]
 pub struct Asked<'a> {
     /// The object: `host` or `host/service`.
     pub object: &'a str,
@@ -27,6 +28,8 @@ pub struct Asked<'a> {
     pub to: u64,
     /// How it is written.
     pub form: RowForm,
+    /// Where the values stand that filters go by.
+    pub places: &'a Places,
 }
 
 /// Writes of each attempt on an object its filters, and whom it goes to.

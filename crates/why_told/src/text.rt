@@ -8,6 +8,7 @@ ghost use Rattle.why_told.specs.Why.{stop_json, stop_rows, stop_text, withheld_a
 use crate::attempts::Open;
 use crate::missing::push_missing;
 use crate::nothing::push_nothing;
+use crate::places::Places;
 use crate::rows::{push_head, push_more, push_refused, push_stopped_text, push_told};
 use crate::teller::Asked;
 use due_model::config::{Config, ContactId, ObjectId};
@@ -132,16 +133,17 @@ pub(crate) fn push_ending(
 fn push_stop_rows(
     text: &mut Vec<u8>,
     coloured: bool,
+    places: &Places,
     config: &Config,
     clock: &ZoneClock<'_>,
     stop: &Suppression,
 ) -> Result<(), AllocError>
-    ensures { OnOk result
-        (text.new.items ≡ text.old.items ++ stop_rows coloured config.now clock.now stop.now) }
+    ensures { OnOk result (text.new.items
+        ≡ text.old.items ++ stop_rows coloured places.now config.now clock.now stop.now) }
 {
     push_head(text, clock, stop.moment, stop.kind, stop.state, 0)?;
     push_passed(text, config, stop.object, place_of(stop.filter))?;
-    push_stopped_text(text, coloured, config, stop)
+    push_stopped_text(text, coloured, places, config, stop)
 }
 
 /// The same as JSON.
@@ -149,12 +151,13 @@ fn push_stop_rows(
 fn push_stop_json(
     alloc: Global,
     text: &mut Vec<u8>,
+    places: &Places,
     config: &Config,
     clock: &ZoneClock<'_>,
     stop: &Suppression,
 ) -> Result<(), AllocError>
-    ensures { OnOk result
-        (text.new.items ≡ text.old.items ++ stop_json config.now clock.now stop.now) }
+    ensures { OnOk result (text.new.items
+        ≡ text.old.items ++ stop_json places.now config.now clock.now stop.now) }
 {
     let (object, place) = (stop.object, place_of(stop.filter));
     push_tried(
@@ -165,6 +168,7 @@ fn push_stop_json(
         object,
         place,
         Some(stop.filter),
+        places.place(place),
     )?;
     let line = ReportLine::Decided(Entry::Withheld(*stop));
     push_json(alloc, text, config, clock, &line)
@@ -174,18 +178,19 @@ fn push_stop_json(
 fn push_new_stop(
     alloc: Global,
     text: &mut Vec<u8>,
-    form: RowForm,
     config: &Config,
     clock: &ZoneClock<'_>,
+    asked: Asked<'_>,
     stop: &Suppression,
 ) -> Result<(), AllocError>
-    ensures { OnOk result
-        (text.new.items ≡ text.old.items ++ new_stop_text form config.now clock.now stop.now) }
+    ensures { OnOk result (text.new.items
+        ≡ text.old.items ++ new_stop_text asked.entry config.now clock.now stop.now) }
 {
-    if is_json(form) {
-        push_stop_json(alloc, text, config, clock, stop)
+    if is_json(asked.form) {
+        push_stop_json(alloc, text, asked.places, config, clock, stop)
     } else {
-        push_stop_rows(text, is_coloured(form), config, clock, stop)
+        let coloured = is_coloured(asked.form);
+        push_stop_rows(text, coloured, asked.places, config, clock, stop)
     }
 }
 
@@ -193,16 +198,16 @@ fn push_new_stop(
 fn push_again(
     alloc: Global,
     text: &mut Vec<u8>,
-    form: RowForm,
     config: &Config,
     clock: &ZoneClock<'_>,
+    asked: Asked<'_>,
     stop: &Suppression,
 ) -> Result<(), AllocError>
-    ensures { OnOk result
-        (text.new.items ≡ text.old.items ++ again_text form config.now clock.now stop.now) }
+    ensures { OnOk result (text.new.items
+        ≡ text.old.items ++ again_text asked.entry config.now clock.now stop.now) }
 {
-    if is_json(form) {
-        push_stop_json(alloc, text, config, clock, stop)
+    if is_json(asked.form) {
+        push_stop_json(alloc, text, asked.places, config, clock, stop)
     } else {
         Ok(())
     }
@@ -222,10 +227,10 @@ fn push_stop(
         ≡ text.old.items ++ stop_text asked.entry config.now clock.now current.now stop.now) }
 {
     if current.goes_on(stop) {
-        return push_again(alloc, text, asked.form, config, clock, stop);
+        return push_again(alloc, text, config, clock, asked, stop);
     }
     push_close(alloc, text, config, clock, asked, current)?;
-    push_new_stop(alloc, text, asked.form, config, clock, stop)
+    push_new_stop(alloc, text, config, clock, asked, stop)
 }
 
 /// Adds how an attempt begins that goes out.
@@ -258,7 +263,7 @@ fn push_out(
 {
     if is_json(form) {
         let (event, object) = (attempt.event, attempt.object);
-        push_tried(alloc, text, config, event, object, FILTERS, None)
+        push_tried(alloc, text, config, event, object, FILTERS, None, &[])
     } else {
         push_out_rows(text, config, clock, attempt)
     }

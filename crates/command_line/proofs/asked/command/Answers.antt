@@ -41,7 +41,10 @@ returns c =
     let why_is = c.in_ok-why_command.ensures.words in
     let diff_added = c.in_ok-subcommand-5.ensures.shape (third_is_false _ _ _ _ (ap (λ (a : App). a.top.is_plain) diff_is))
     ∙ ap₂ with_subcommand who_added (ap (λ (a : App). a.top) diff_is) in
+    let check_is = c.in_ok-check_command.ensures.words in
+    let why_added = c.in_ok-subcommand-6.ensures.shape (third_is_false _ _ _ _ (ap (λ (a : App). a.top.is_plain) why_is))
+    ∙ ap₂ with_subcommand diff_added (ap (λ (a : App). a.top) why_is) in
     record {
-      words = IfOk-weaker c.subcommand-6.result _ _ (λ r h. h.shape (third_is_false _ _ _ _ (ap (λ (a : App). a.top.is_plain) why_is))
-          ∙ ap₂ with_subcommand diff_added (ap (λ (a : App). a.top) why_is)) c.subcommand-6.ensures;
+      words = IfOk-weaker c.subcommand-7.result _ _ (λ r h. h.shape (third_is_false _ _ _ _ (ap (λ (a : App). a.top.is_plain) check_is))
+          ∙ ap₂ with_subcommand why_added (ap (λ (a : App). a.top) check_is)) c.subcommand-7.ensures;
     }

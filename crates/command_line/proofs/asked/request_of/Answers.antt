@@ -1,6 +1,6 @@
 use Rattle.std.proofs.Common.{List, Some, codes, ap, sym, ℕ, ◌∙◌}
 use Rattle.clap.specs.Matches.{found_of}
-use Rattle.command_line.specs.Words.{DiffLacks, RunLacks, TraceLacks, WhoLacks, WhyLacks}
+use Rattle.command_line.specs.Words.{CheckLacks, DiffLacks, RunLacks, TraceLacks, WhoLacks, WhyLacks}
 use Rattle.command_line.proofs.RequestLemmas.{is-asked, none-asked, some-asked}
 use Rattle.command_line.proofs.asked.request_of.Goals as goal
 
@@ -69,3 +69,15 @@ returns-in-Some-why-default-clause-why c =
     let met = c.in-Some-why-default in
     none-asked c.args.matches.now (found_of met.options.now) (codes "why") c.why_request.result WhyLacks (ap (λ (n : List ℕ). Some n) (sym met.is-why) ∙ met.ensures.name) met.ensures.rows
     c.why_request.ensures.lacking
+
+pub returns-in-Some-check-default-clause-asked : goal.returns-in-Some-check-default-clause-asked
+returns-in-Some-check-default-clause-asked c =
+    let met = c.in-Some-check-default in
+    some-asked c.args.matches.now (found_of met.options.now) (codes "check") c.check_request.result (ap (λ (n : List ℕ). Some n) (sym met.is-check) ∙ met.ensures.name) met.ensures.rows
+    c.check_request.ensures.named c.check_request.ensures.options
+
+pub returns-in-Some-check-default-clause-check : goal.returns-in-Some-check-default-clause-check
+returns-in-Some-check-default-clause-check c =
+    let met = c.in-Some-check-default in
+    none-asked c.args.matches.now (found_of met.options.now) (codes "check") c.check_request.result CheckLacks (ap (λ (n : List ℕ). Some n) (sym met.is-check) ∙ met.ensures.name) met.ensures.rows
+    c.check_request.ensures.lacking

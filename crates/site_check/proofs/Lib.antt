@@ -1,0 +1,4 @@
+pub mod FaultLemmas
+pub mod ListLemmas
+pub mod CheckedLemmas
+pub mod CountLemmas

@@ -1,0 +1,5 @@
+mod LineLemmas
+mod OriginLemmas
+mod AddLemmas
+mod PlaceLemmas
+mod SoundLemmas

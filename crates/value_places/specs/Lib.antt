@@ -1,0 +1,4 @@
+pub mod Lines
+pub mod Origins
+pub mod Questions
+pub mod Places

@@ -1,0 +1,26 @@
+-- Where the values stand in the object text that filters go by.
+use Rattle.std.specs.Prelude.{ℕ, ◌+◌, ◌*◌, List, [], ◌∷◌, ◌++◌, codes, slice_index_or}
+use Rattle.due_model.specs.declared.notice.Filter.{Filter}
+use Rattle.due_model.specs.declared.notice.Filter.TheVariants.{ContactOptions, ContactPeriod}
+
+-- which of a contact's three places is that of a filter
+abbrev pub right_place : Filter → ℕ
+right_place ContactOptions = 1
+right_place ContactPeriod = 2
+right_place filter = 0
+
+-- that of a contact's filter among all: three of each contact come after the eleven of the object
+abbrev pub contact_place : (k : ℕ) → Filter → ℕ
+contact_place k filter = 11 + k * 3 + right_place filter
+
+-- a place behind a value, if it is known
+abbrev pub shown_place : List ℕ → List ℕ
+shown_place [] = []
+shown_place (byte ∷ bytes) = codes "  " ++ (byte ∷ bytes)
+
+-- the place of that number; empty where there is none
+abbrev pub place_at : List (List ℕ) → (i : ℕ) → List ℕ
+place_at places i = slice_index_or places i []
+
+abbrev pub place_text : List (List ℕ) → (i : ℕ) → List ℕ
+place_text places i = shown_place (place_at places i)
