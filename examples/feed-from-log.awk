@@ -3,7 +3,12 @@
 #
 #     awk -f examples/feed-from-log.awk examples/nagios.log
 #
-# Other lines of the log, soft states among them, say nothing here.
+# A log begins with the state of each host and service (INITIAL or CURRENT); those that are hard and no recovery go into the feed.
+# Nagios says that a downtime started once more after it was started itself anew: that is left out, and so is the end of one that
+# nothing has started. The end of flapping detection ends flapping.
+#
+# Of these the feed has no word: soft states, what was sent, a switch of one object, an acknowledgement that is taken back, notices
+# that somebody delays or sends by hand. Where a night has one of them, `replay` may tell otherwise than Nagios did.
 
 # The clock up to that moment, minute by minute.
 function clock(now) {
@@ -11,17 +16,20 @@ function clock(now) {
     for (; minute <= now; minute += 60) print "[" minute "] CLOCK"
 }
 
-# The word of the feed for one of the log; none where the feed has none.
-function word(kind, said) {
-    if (said == "STARTED") return "START"
-    if (said == "STOPPED") return kind == "DOWNTIME" ? "END" : "STOP"
-    if (said == "CANCELLED" && kind == "DOWNTIME") return said
-    return ""
-}
-
 # The line that says so of the host, or of its service.
 function tell(kind, said) {
-    if (said != "") print "[" now "] " what "_" kind ";" about ";" said
+    clock(now)
+    print "[" now "] " what "_" kind ";" about ";" said
+}
+
+# A downtime's start, where none is on, and the end of one that is.
+function downtime(said, key) {
+    key = what ";" about
+    if (said == "STARTED" && !(key in down)) { down[key]; tell("DOWNTIME", "START") }
+    else if ((said == "STOPPED" || said == "CANCELLED") && key in down) {
+        delete down[key]
+        tell("DOWNTIME", said == "STOPPED" ? "END" : said)
+    }
 }
 
 match($0, /^\[[0-9]+\] /) {
@@ -40,16 +48,15 @@ match($0, /^\[[0-9]+\] /) {
         if (field[1] == "ACKNOWLEDGE_HOST_PROBLEM" || field[1] == "ACKNOWLEDGE_SVC_PROBLEM") {
             what = field[1] ~ /HOST/ ? "HOST" : "SERVICE"
             about = what == "HOST" ? field[2] : field[2] ";" field[3]
-            clock(now)
             tell("ACK", field[what == "HOST" ? 3 : 4] == 2 ? "STICKY" : "NORMAL")
         }
         next
     }
-    if (title !~ /^(HOST|SERVICE) (ALERT|DOWNTIME ALERT|FLAPPING ALERT)$/) next
-    what = title ~ /^HOST/ ? "HOST" : "SERVICE"
+    if (title !~ /^(HOST|SERVICE) (ALERT|DOWNTIME ALERT|FLAPPING ALERT)$/ && title !~ /^(INITIAL|CURRENT) (HOST|SERVICE) STATE$/) next
+    what = title ~ /HOST/ ? "HOST" : "SERVICE"
     about = what == "HOST" ? field[1] : field[1] ";" field[2]
     said = what == "HOST" ? 2 : 3
-    if (title ~ /DOWNTIME/) { clock(now); tell("DOWNTIME", word("DOWNTIME", field[said])) }
-    else if (title ~ /FLAPPING/) { clock(now); tell("FLAPPING", word("FLAPPING", field[said])) }
-    else if (field[said + 1] == "HARD") { clock(now); tell("STATE", field[said]) }
+    if (title ~ /DOWNTIME/) downtime(field[said])
+    else if (title ~ /FLAPPING/) tell("FLAPPING", field[said] == "STARTED" ? "START" : "STOP")
+    else if (field[said + 1] == "HARD" && !(title ~ /STATE$/ && field[said] ~ /^(UP|OK)$/)) tell("STATE", field[said])
 }

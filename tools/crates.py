@@ -2,10 +2,13 @@
 """The crates by family, lowest first, each with the sentence that its source begins with.
 
   python3 tools/crates.py           prints all
-  python3 tools/crates.py WORD..    prints those whose name or sentence has each of the words"""
+  python3 tools/crates.py WORD..    prints those whose name or sentence has each of the words
+
+With --promises it prints of each what its page, crates/NAME/README.md, says: what carries its promise, what that says and what it doesn't."""
 import os
 import re
 import sys
+import textwrap
 
 TOP = os.path.dirname(os.path.dirname(os.path.realpath(__file__)))
 
@@ -35,6 +38,17 @@ def sentence(crate):
     return ""
 
 
+def page(crate):
+    """Returns what the page of a crate says, by the words that each part begins with, or None where it has no such page."""
+    path = f"{TOP}/crates/{crate}/README.md"
+    if not os.path.exists(path):
+        return None
+    with open(path) as lines:
+        text = lines.read()
+    found = {name: " ".join(said.split()) for name, said in re.findall(r"(?m)^\*\*([^*:]+):\*\* (.*(?:\n(?!\n).*)*)", text)}
+    return found if text.startswith(f"# `{crate}`\n") and "Carried by" in found else None
+
+
 def faults_of_layers():
     """Yields, for each crate, what is wrong with where it stands and how its source begins, or nothing."""
     above = [name for _, crates in families() for name, _ in crates]
@@ -49,10 +63,14 @@ def faults_of_layers():
 
 
 if __name__ == "__main__":
+    words = [it for it in sys.argv[1:] if it != "--promises"]
     for family, crates in families():
         shown = [(name, sentence(name)) for name, _ in crates]
-        shown = [it for it in shown if all(word in " ".join(it) for word in sys.argv[1:])]
+        shown = [it for it in shown if all(word in " ".join(it) for word in words)]
         if shown:
             print(family)
         for name, said in shown:
             print(f"  {name:24} {said}")
+            if "--promises" in sys.argv[1:]:
+                for part, text in (page(name) or {}).items():
+                    print(textwrap.fill(f"{part}: {text}", 140, initial_indent="      ", subsequent_indent="        ", break_on_hyphens=False))
