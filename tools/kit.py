@@ -98,6 +98,19 @@ def stamp(crate):
 rtlib.Crate.stamp = stamp
 
 
+def below(crate):
+    """Returns the kit's list of the libraries below a crate, worked out once for each crate: some kits walk each of the many ways that lead to a library, which takes minutes."""
+    if "libraries_below" not in vars(crate):
+        found = {}
+        for dep in crate.deps:
+            found.update(dict.fromkeys([*below(dep), dep]))
+        crate.libraries_below = [*found]
+    return [*crate.libraries_below]
+
+
+rtlib.Crate.below = below
+
+
 @functools.lru_cache(maxsize=None)
 def is_sound(crate, kept):
     """Returns whether a refusal over what is kept in that folder is one of the edit: the kit tells them apart, or the crate as it stands is proved over it."""
