@@ -1,0 +1,4 @@
+pub mod Compared
+pub mod ComparedLaws
+pub mod State
+pub mod Tally

@@ -1,0 +1,3 @@
+pub mod HandedLaws
+mod PostLaws
+mod TiedLaws
