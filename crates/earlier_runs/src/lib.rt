@@ -4,6 +4,7 @@
 
 pub mod compared;
 pub mod from_now;
+pub mod journals;
 pub mod left;
 pub mod state;
 pub mod strays;
@@ -11,6 +12,7 @@ pub mod tally;
 
 pub use compared::{Change, change_of};
 pub use from_now::{events_of, give_up_all};
+pub use journals::{FolderJournals, JournalNames, Journals};
 pub use left::LaneState;
 pub use state::{lane_state, states_of};
 pub use strays::stray_journal;

@@ -20,7 +20,10 @@ use Rattle.run_devices.specs.Channels.{Opened, asked, numbered_from, opened}
 use Rattle.run_devices.specs.Done.{WritesLogged, WritesRun}
 use Rattle.earlier_runs.specs.declared.left.LaneState.{LaneState}
 use Rattle.earlier_runs.specs.State.{past_in}
-use Rattle.run_resumed.specs.Resumed.{HasHandedOn, HaveHandedOn, WritesResumedEnds, WritesResumedRun}
+use Rattle.journal_file.specs.Text.{Text}
+use Rattle.written.specs.Written.{Writes}
+use Rattle.run_resumed.specs.JournalLines.{HasLines}
+use Rattle.run_resumed.specs.Resumed.{AddsLines, HasHandedOn, HaveHandedOn, IsResumedPost, WritesResumedEnds, WritesResumedRun}
 
 -- A channel of lane l as it was given: it goes by what earlier runs left of the lane, and neither it nor the one below has taken anything.
 pub record IsFresh {C J : Type 0} (account : C → Account) (states : List LaneState) (l : ℕ) (channel : Wrapped C J) : Type 0 where
@@ -59,6 +62,24 @@ pub posts_unused : {P D : Type 0} (of : P → Held D) (posts : List P) (channels
 posts_unused {P} {D} of posts channels is h =
     All-from_map (λ (x : Held D). x.kept.taken ≡ []) of posts
     (subst (λ (xs : List (Held D)). All (λ (x : Held D). x.kept.taken ≡ []) xs) (sym is) (numbered_unused 0 channels h))
+
+-- each post's channel, of posts that are over their journals, and whose channels below have taken nothing
+pub all_fresh : {C W : Type 0} (account : C → Account) (c : Config) (states : List LaneState) (posts : List (Post (Wrapped C (Text W)))) → All (IsResumedPost c states) posts
+    → All (λ post. (account post.channel.inner).taken ≡ []) posts → All (λ post. IsFresh account states post.lane.0 post.channel) posts
+all_fresh account c states posts each unused = λ k d within.
+    let is = each k d within in
+    record { state = is.state; at = is.at; past = is.past; taken = is.taken; inner = unused k d within }
+
+-- the lines of the journals, under other names
+pub adds_lines : {C J V : Type 0} (items : V → List (Wrapped C J)) (c c' : Config) (states states' : List LaneState) (back back' : List V) (middle after : Option (List ℕ)) → c' ≡ c
+    → states' ≡ states → back' ≡ back → ((text : List ℕ) × HasLines c' states' (map items back') 256 text × Writes middle after text) → AddsLines items c states back middle after
+adds_lines {C} {J} {V} items c c' states states' back back' middle after e f g h = record {
+  journals = h.0;
+  lines = subst (λ (x : Config). HasLines x states (map items back) 256 h.0) e
+      (subst (λ (x : List LaneState). HasLines c' x (map items back) 256 h.0) f
+      (subst (λ (x : List V). HasLines c' states' (map items x) 256 h.0) g h.1));
+  wrote = h.2;
+}
 
 -- ---- lane by lane
 
@@ -106,6 +127,15 @@ module _ {C J V : Type 0} (inner : C → Account) (account : Wrapped C J → Acc
         → WritesResumedRun inner account offered items can_fail is_open c zone tries states posts given_back known ending before after
     resumed_run can_fail is_open c zone tries posts given_back known before after ending fresh (end, (run, read, near, tied), memory, ended, wrote) =
         (end, (run, read, near, (tied, have_handed_on tries c posts given_back end.lanes.items fresh tied)), memory, ended, wrote)
+
+    -- the same where the configuration has another name
+    pub resumed_run_by : (can_fail is_open : Bool) (c c' : Config) (zone : Zone) (tries : ℕ) (posts : List (Post (Wrapped C J))) (given_back : List V) (known before after : Option (List ℕ)) (ending : Ending)
+        → c' ≡ c → All (λ post. IsFresh inner states post.lane.0 post.channel) posts
+        → WritesRun account offered items can_fail is_open c' zone tries posts given_back known ending before after
+        → WritesResumedRun inner account offered items can_fail is_open c zone tries states posts given_back known ending before after
+    resumed_run_by can_fail is_open c c' zone tries posts given_back known before after ending same fresh run =
+        resumed_run can_fail is_open c zone tries posts given_back known before after ending fresh
+        (subst (λ (x : Config). WritesRun account offered items can_fail is_open x zone tries posts given_back known ending before after) same run)
 
     -- and of one with a log
     pub resumed_ends : (can_fail is_open : Bool) (c : Config) (zone : Zone) (tries : ℕ) (posts : List (Post (Wrapped C J))) (given_back : List V) (known before after : Option (List ℕ)) (ending : Ending)

@@ -1,5 +1,5 @@
 -- The lines of what a run's journals come to.
-use Rattle.std.specs.Prelude.{◌≡◌, ℕ, suc, zero, List, [], ◌++◌, Option, None, Some, flat_map, map, slice_get}
+use Rattle.std.specs.Prelude.{◌≡◌, ℕ, List, [], Option, None, Some, flat_map, length, map, slice_get}
 use Rattle.due_model.specs.declared.config.Config.{Config}
 use Rattle.due_model.specs.declared.notice.Notice.{Notice}
 use Rattle.journaled.specs.Wrapped.{Wrapped}
@@ -21,9 +21,11 @@ IsLine c l (Some state) (Some channels) line =
     (tally : LaneTally) × IsTally (past_in state) (taken_by channels) tally × (tally.earlier ≡ state.earlier)
     × (line ≡ journal_line c l tally)
 
--- the lines of the first lanes, in order
-abbrev pub HasLines : {C J : Type 0} → Config → List LaneState → (channels : List (List (Wrapped C J))) → (count : ℕ) → (text : List ℕ) → Type 0
-HasLines c states channels zero text = text ≡ []
-HasLines c states channels (suc l) text =
-    (before : List ℕ) × (line : List ℕ) × HasLines c states channels l before
-    × IsLine c l (slice_get states l) (slice_get channels l) line × (text ≡ before ++ line)
+-- The lines of the first lanes, so many, in order: each is that of its lane.
+pub record HasLines {C J : Type 0} (c : Config) (states : List LaneState) (channels : List (List (Wrapped C J))) (count : ℕ) (text : List ℕ)
+    : Type 0
+  where
+    pub lines : List (List ℕ)
+    pub many : length lines ≡ count
+    pub each : (l : ℕ) (line : List ℕ) → slice_get lines l ≡ Some line → IsLine c l (slice_get states l) (slice_get channels l) line
+    pub text_is : text ≡ flat_map (λ line. line) lines

@@ -25,7 +25,10 @@ use Rattle.run_devices.specs.Done.{AreOpened}
 use Rattle.written.specs.Written.{Writes}
 use Rattle.earlier_runs.specs.Compared.{IsSame}
 use Rattle.earlier_runs.specs.declared.left.LaneState.{LaneState}
-use Rattle.earlier_runs.specs.State.{past_in}
+use Rattle.earlier_runs.specs.FromNow.{GivesUpAll}
+use Rattle.earlier_runs.specs.State.{AreLeft, past_in}
+use Rattle.journal_folder.specs.declared.lane_past.LanePast.{LanePast}
+use Rattle.journal_text.specs.declared.entry.Entry.{Entry}
 use Rattle.run_resumed.specs.JournalLines.{HasLines}
 
 -- ---- its channels
@@ -129,26 +132,42 @@ LogsWith {C} {D} {W} inner account offered items channel_of can_fail is_open c z
     × WritesResumedEnds inner account offered items can_fail is_open c zone tries states posts given_back known ending before middle
     × AddsLines items c states given_back middle after
 
+-- What the feed made due by the events that were counted was given up in the journals of the lanes, as far as it wasn't sent.
+pub record IsGivenUpSoFar {F J : Type 0} (knows : F → Config → LaneId → LanePast → Type 0) (begins : F → Config → LaneId → ℕ → J → Type 0)
+    (replaced : F → Config → LaneId → Type 0) (wrote : J → List Entry → J → Type 0) (journals : F) (c : Config) (zone : Zone) : Type 0 where
+  pub counted : List Answer
+  pub due : List Answer
+  pub all : GivesUpAll knows begins replaced wrote journals c (length (past_of counted)) (due_of c zone (past_of due))
+
+-- These states are what the journals say of the lanes, one of each; where a run goes on from now, once all was given up that was due so far.
+pub record AreKept {F J : Type 0} (says : F → Config → LaneId → LanePast → Type 0) (goes_on : F → Config → LaneId → J → Type 0)
+    (knows : F → Config → LaneId → LanePast → Type 0) (begins : F → Config → LaneId → ℕ → J → Type 0) (replaced : F → Config → LaneId → Type 0)
+    (wrote : J → List Entry → J → Type 0) (drops from_now : Bool) (c : Config) (zone : Zone) (states : List LaneState) : Type 0 where
+  pub journals : F
+  pub left : AreLeft says goes_on wrote journals c drops states
+  pub given_up : from_now ≡ true → IsGivenUpSoFar knows begins replaced wrote journals c zone
+
 -- All checks of the words of these texts went well, by an accepted configuration; each channel is one that was opened as its word asks,
--- over a journal of its lane; and what the feed's file made due when it was read is what was sent.
-pub record AreReady {C W : Type 0} (opened : C → Opened) (texts : List (List ℕ)) (zone : Zone) (config : Config) (states : List LaneState)
-    (posts : List (Post (Wrapped C (Text W)))) : Type 0 where
+-- over a journal of its lane; the states are what the journals say; and what the feed's file made due when it was read is what was sent.
+pub record AreReady {C W : Type 0} (opened : C → Opened) (are_kept : Config → List LaneState → Type 0) (texts : List (List ℕ)) (zone : Zone)
+    (config : Config) (states : List LaneState) (posts : List (Post (Wrapped C (Text W)))) : Type 0 where
   pub lanes : List LaneId
   pub posted : map (λ post. post.lane) posts ≡ lanes
   pub right : AreOpened texts config lanes (map (λ post. opened post.channel.inner) posts)
   pub each : All (IsResumedPost config states) posts
+  pub kept : are_kept config states
   pub due : List Answer
   pub same : IsSame states (length (past_of due)) (due_of config zone (past_of due))
 
 -- All that was so before the feed was read; the report of the run was written, and after it the line of each lane's journals.
 pub record IsGoneOn {C W V : Type 0} (inner : C → Account) (account : Wrapped C (Text W) → Account)
     (offered : Wrapped C (Text W) → List Offer → Wrapped C (Text W) → Type 0) (items : V → List (Wrapped C (Text W))) (opened : C → Opened)
-    (texts : List (List ℕ)) (can_fail is_open : Bool) (zone : Zone) (tries : ℕ) (given_back : List V) (known : Option (List ℕ))
+    (are_kept : Config → List LaneState → Type 0) (texts : List (List ℕ)) (can_fail is_open : Bool) (zone : Zone) (tries : ℕ) (given_back : List V) (known : Option (List ℕ))
     (ending : Ending) (before after : Option (List ℕ)) : Type 0 where
   pub config : Config
   pub states : List LaneState
   pub posts : List (Post (Wrapped C (Text W)))
-  pub ready : AreReady opened texts zone config states posts
+  pub ready : AreReady opened are_kept texts zone config states posts
   pub middle : Option (List ℕ)
   pub report : WritesResumedRun inner account offered items can_fail is_open config zone tries states posts given_back known ending before middle
   pub lines : AddsLines items config states given_back middle after
@@ -156,12 +175,12 @@ pub record IsGoneOn {C W V : Type 0} (inner : C → Account) (account : Wrapped 
 -- the same of a run with a log
 pub record IsLoggedOn {C W V : Type 0} (inner : C → Account) (account : Wrapped C (Text W) → Account)
     (offered : Wrapped C (Text W) → List Offer → Wrapped C (Text W) → Type 0) (items : V → List (Wrapped C (Text W))) (opened : C → Opened)
-    (texts : List (List ℕ)) (can_fail is_open : Bool) (zone : Zone) (tries : ℕ) (given_back : List V) (known : Option (List ℕ))
+    (are_kept : Config → List LaneState → Type 0) (texts : List (List ℕ)) (can_fail is_open : Bool) (zone : Zone) (tries : ℕ) (given_back : List V) (known : Option (List ℕ))
     (ending : Ending) (before after : Option (List ℕ)) : Type 0 where
   pub config : Config
   pub states : List LaneState
   pub posts : List (Post (Wrapped C (Text W)))
-  pub ready : AreReady opened texts zone config states posts
+  pub ready : AreReady opened are_kept texts zone config states posts
   pub middle : Option (List ℕ)
   pub ends : WritesResumedEnds inner account offered items can_fail is_open config zone tries states posts given_back known ending before middle
   pub lines : AddsLines items config states given_back middle after

@@ -48,7 +48,8 @@ fn push_lane(
 {
     let taken = taken_by(alloc, channels)?;
     let tally = tally_of(alloc, &state.past, state.earlier, &taken)?;
-    push_tally(text, config, lane, tally)
+    push_tally(text, config, lane, tally)?;
+    Ok(())
 }
 
 /// Adds the line of the lane of this number, if there is one.
@@ -65,9 +66,13 @@ fn push_number(
         (slice_get (map (λ cs. cs.items) channels.now) number) line) }
 {
     let place = usize::from(number);
-    if let (Some(state), Some(of_lane)) = (states.get(place), channels.get(place)) {
-        push_lane(text, alloc, config, LaneId(number), state, of_lane)?;
-    }
+    let Some(state) = states.get(place) else {
+        return Ok(());
+    };
+    let Some(of_lane) = channels.get(place) else {
+        return Ok(());
+    };
+    push_lane(text, alloc, config, LaneId(number), state, of_lane)?;
     Ok(())
 }
 
@@ -115,5 +120,6 @@ pub(crate) fn write_journal_lines<W: Sink>(
         × Writes (W.contents writer.old) (W.contents writer.new) text) }
 {
     let text = lines_of(alloc, config, states, channels)?;
-    write_whole(writer, &text)
+    write_whole(writer, &text)?;
+    Ok(())
 }

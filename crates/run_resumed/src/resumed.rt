@@ -7,7 +7,7 @@ ghost use Rattle.channel_words.specs.Lanes.{channels_for};
 ghost use Rattle.due_model.specs.Accepted.{IsAccepted};
 ghost use Rattle.run_devices.specs.Channels.{numbered_from, opened};
 ghost use Rattle.run_resumed.specs.Fault.{IsNoChannelFault, ResumeFails};
-ghost use Rattle.run_resumed.specs.Resumed.{IsGoneOn, IsLoggedOn, IsResumedPost, LogsWith, ResumesWith};
+ghost use Rattle.run_resumed.specs.Resumed.{AreKept, IsGoneOn, IsLoggedOn, IsResumedPost, LogsWith, ResumesWith};
 
 use crate::fault::{ResumeFault, told};
 use crate::journal_lines::write_journal_lines;
@@ -18,7 +18,11 @@ use channel::Channel;
 use command_output::{Ending, Sink};
 use due_model::config::{Config, LaneId};
 use due_model::zone::Zone;
+use earlier_runs::{FolderJournals, Journals};
 use engine::Post;
+use journal_folder::FileJournal;
+use journaled::Journal;
+use journaled::laws::split_by_past;
 use run_devices::channels::OpenedChannel;
 use run_devices::counted::CountedChannel;
 use run_devices::logged_run::{log_posts, opened_log};
@@ -57,6 +61,11 @@ pub fn do_resumed_run<'m, 'a, T: Threads + Wait + Clock + Sync, R: Input + Drop,
         (unwrap_or (option_map (λ given. given.now) words.entry.channels) [])
         in IfOk result (λ done. IsGoneOn ⟦<CountedChannel<OpenedChannel> as Channel>⟧.account
         ⟦<ResumedChannel as Channel>⟧.account ⟦<ResumedChannel as Channel>⟧.offered (λ cs. cs.items) (λ c. opened c.channel)
+        (λ c states. AreKept
+        ⟦<FolderJournals as Journals<FileJournal>>⟧.says ⟦<FolderJournals as Journals<FileJournal>>⟧.goes_on
+        ⟦<FolderJournals as Journals<FileJournal>>⟧.knows ⟦<FolderJournals as Journals<FileJournal>>⟧.begins
+        ⟦<FolderJournals as Journals<FileJournal>>⟧.replaced ⟦<FileJournal as Journal>⟧.wrote
+        settings.entry.state.drops_doubt settings.entry.state.from_now c zone.now states)
         texts R.can_fail (is_none settings.entry.run.ahead) zone.now settings.entry.run.settings.tries done.channels.items
         (R.remaining feed) done.ending (W.contents writer.old) (W.contents writer.new)) }
     // What it fails with, and that the earlier checks went well.
@@ -68,7 +77,8 @@ pub fn do_resumed_run<'m, 'a, T: Threads + Wait + Clock + Sync, R: Input + Drop,
     let deciders = settings.run.settings.deciders;
     let metrics = metrics_at(rt, &ready.config, deciders, words.metrics)?;
     let watched = Watched::new(rt, threads, settings.run.quiet, None, metrics)?;
-    resume(watched, zone, settings, ready, feed, writer)
+    let done = resume(watched, zone, settings, ready, feed, writer)?;
+    Ok(done)
 }
 
 /// The same of a run with a log: the lines of its report go there as they happen, and the ends of its lanes and the lines of its journals to
@@ -87,6 +97,11 @@ pub fn do_logged_resumed_run<'m, 'a, T: Threads + Wait + Clock + Sync, R: Input 
         (unwrap_or (option_map (λ given. given.now) words.entry.channels) [])
         in IfOk result (λ done. IsLoggedOn ⟦<CountedChannel<OpenedChannel> as Channel>⟧.account
         ⟦<ResumedChannel as Channel>⟧.account ⟦<ResumedChannel as Channel>⟧.offered (λ cs. cs.items) (λ c. opened c.channel)
+        (λ c states. AreKept
+        ⟦<FolderJournals as Journals<FileJournal>>⟧.says ⟦<FolderJournals as Journals<FileJournal>>⟧.goes_on
+        ⟦<FolderJournals as Journals<FileJournal>>⟧.knows ⟦<FolderJournals as Journals<FileJournal>>⟧.begins
+        ⟦<FolderJournals as Journals<FileJournal>>⟧.replaced ⟦<FileJournal as Journal>⟧.wrote
+        settings.entry.state.drops_doubt settings.entry.state.from_now c zone.now states)
         texts R.can_fail (is_none settings.entry.run.ahead) zone.now settings.entry.run.settings.tries done.channels.items
         (R.remaining feed) done.ending (W.contents writer.old) (W.contents writer.new)) }
     ensures fault { let texts = map (λ text. text.now)
@@ -98,7 +113,8 @@ pub fn do_logged_resumed_run<'m, 'a, T: Threads + Wait + Clock + Sync, R: Input 
     let file = opened_log(rt, Arc::try_clone(&ready.config)?, log.file)?;
     let metrics = metrics_at(rt, &ready.config, deciders, words.metrics)?;
     let watched = Watched::new(rt, threads, settings.run.quiet, Some(file), metrics)?;
-    log_on(watched, zone, settings, log.fold, ready, feed, writer)
+    let done = log_on(watched, zone, settings, log.fold, ready, feed, writer)?;
+    Ok(done)
 }
 
 /// The posts of channels that were opened, one on each of these lanes in order, each over its journal. What is wrong with a journal is said on
@@ -128,7 +144,7 @@ fn posts_on<'a, T: Threads>(
         &watched.counts,
         &watched.teller,
     )?;
-    match resumed_posts(alloc, &kept.folder, config, &kept.states, posts) {
+    match resumed_posts(alloc, kept.journals.folder(), config, &kept.states, posts) {
         Ok(posts) => Ok(posts),
         Err(fault) => Err(told(watched.rt, folder, config, KeptFault::Folder(fault))),
     }
@@ -160,6 +176,7 @@ fn resume<'a, T: Threads + Wait + Clock + Sync, R: Input + Drop, W: Sink>(
         opened,
         kept,
     } = ready;
+    split_by_past();
     let alloc = watched.rt.alloc();
     let posts = posts_on(
         &watched,
@@ -202,6 +219,7 @@ fn log_on<'a, T: Threads + Wait + Clock + Sync, R: Input + Drop, W: Sink>(
         opened,
         kept,
     } = ready;
+    split_by_past();
     let alloc = watched.rt.alloc();
     let posts = posts_on(
         &watched,

@@ -1,4 +1,4 @@
-use Rattle.std.proofs.Common.{◌≡◌, ◌∙◌, Err, List, Some, ap, length, refl, rules, subst}
+use Rattle.std.proofs.Common.{Err, ap, length, rules, subst}
 use Rattle.due_feed.specs.Seen.{past_of}
 use Rattle.earlier_runs.specs.Compared.{AreLong, IsFirstLeft, IsShort}
 use Rattle.earlier_runs.proofs.CompareLaws.{told_first, told_left, told_short}
