@@ -9,12 +9,10 @@ use Rattle.channel_kinds.specs.DeviceChannel.{Held}
 use Rattle.channel_words.specs.Lanes.{channels_for}
 use Rattle.channel_words.specs.declared.word.ChannelWord.{ChannelWord}
 use Rattle.command_output.specs.declared.outcome.Ending.{Ending}
-use Rattle.delivery_worker.specs.Channels.{HaveServed}
 use Rattle.due_model.specs.declared.config.Config.{Config}
-use Rattle.due_model.specs.declared.notice.Notice.{Notice}
 use Rattle.due_model.specs.declared.zone.Zone.{Zone}
 use Rattle.engine.specs.declared.post.Post.{Post}
-use Rattle.engine.specs.Lanes.{AreTold, HaveTaken, LaneParts, channels_on, joined}
+use Rattle.engine.specs.Lanes.{AreTold, HaveTaken, LaneParts, channels_on}
 use Rattle.journaled.specs.Wrapped.{Wrapped}
 use Rattle.run_devices.specs.Channels.{Opened, asked, numbered_from, opened}
 use Rattle.run_devices.specs.Done.{WritesLogged, WritesRun}
@@ -23,15 +21,7 @@ use Rattle.earlier_runs.specs.State.{past_in}
 use Rattle.journal_file.specs.Text.{Text}
 use Rattle.written.specs.Written.{Writes}
 use Rattle.run_resumed.specs.JournalLines.{HasLines}
-use Rattle.run_resumed.specs.Resumed.{AddsLines, HasHandedOn, HaveHandedOn, IsResumedPost, WritesResumedEnds, WritesResumedRun}
-
--- A channel of lane l as it was given: it goes by what earlier runs left of the lane, and neither it nor the one below has taken anything.
-pub record IsFresh {C J : Type 0} (account : C → Account) (states : List LaneState) (l : ℕ) (channel : Wrapped C J) : Type 0 where
-  pub state : LaneState
-  pub at : slice_get states l ≡ Some state
-  pub past : channel.past ≡ past_in state
-  pub taken : channel.kept.taken ≡ []
-  pub inner : (account channel.inner).taken ≡ []
+use Rattle.run_resumed.specs.Resumed.{AddsLines, HasHandedOn, HaveHandedOn, IsFresh, IsResumedPost, WritesResumedEnds, WritesResumedRun}
 
 -- ---- what was opened has taken nothing
 

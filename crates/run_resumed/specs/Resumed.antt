@@ -1,6 +1,6 @@
 -- What a run is that goes on.
 use Rattle.std.specs.Prelude.{◌≡◌, ℕ, All, Bool, true, false, List, [], Option, length, map, slice_get, Some}
-use Rattle.channel.specs.Channels.{Account, Offer, receipt_of}
+use Rattle.channel.specs.Channels.{Account, Offer, WasOffered, receipt_of}
 use Rattle.channel.specs.declared.Receipt.{Receipt}
 use Rattle.channel_words.specs.Lanes.{channels_for}
 use Rattle.command_output.specs.declared.outcome.Ending.{Ending}
@@ -47,6 +47,21 @@ pub record IsResumed {C W : Type 0} (c : Config) (states : List LaneState) (lane
 
 abbrev pub IsResumedPost : {C W : Type 0} → Config → List LaneState → Post (Wrapped C (Text W)) → Type 0
 IsResumedPost c states post = IsResumed c states post.lane post.channel
+
+-- A channel of lane l as it was given: it goes by what earlier runs left of the lane, and neither it nor the one below has taken anything.
+pub record IsFresh {C J : Type 0} (account : C → Account) (states : List LaneState) (l : ℕ) (channel : Wrapped C J) : Type 0 where
+  pub state : LaneState
+  pub at : slice_get states l ≡ Some state
+  pub past : channel.past ≡ past_in state
+  pub taken : channel.kept.taken ≡ []
+  pub inner : (account channel.inner).taken ≡ []
+
+abbrev pub AreFresh : {C J : Type 0} → (account : C → Account) → List LaneState → List (Post (Wrapped C J)) → Type 0
+AreFresh account states posts = All (λ post. IsFresh account states post.lane.0 post.channel) posts
+
+-- what is offered to a channel is told by it
+abbrev pub TellsOffers : {C : Type 0} → (account : C → Account) → (offered : C → List Offer → C → Type 0) → Type 0
+TellsOffers {C} account offered = (a : C) (offers : List Offer) (b : C) → offered a offers b → WasOffered (account a) offers (account b)
 
 -- ---- what they took
 
@@ -103,6 +118,24 @@ pub record AddsLines {C J V : Type 0} (items : V → List (Wrapped C J)) (c : Co
   pub lines : HasLines c states (map items given_back) 256 journals
   pub wrote : Writes middle after journals
 
+-- the report of such a run, and the lines of its journals after it
+pub record WritesRunAndLines {C J V : Type 0} (inner : C → Account) (account : Wrapped C J → Account)
+    (offered : Wrapped C J → List Offer → Wrapped C J → Type 0) (items : V → List (Wrapped C J)) (can_fail is_open : Bool) (c : Config) (zone : Zone)
+    (tries : ℕ) (states : List LaneState) (posts : List (Post (Wrapped C J))) (given_back : List V) (known : Option (List ℕ)) (ending : Ending)
+    (before after : Option (List ℕ)) : Type 0 where
+  pub middle : Option (List ℕ)
+  pub report : WritesResumedRun inner account offered items can_fail is_open c zone tries states posts given_back known ending before middle
+  pub lines : AddsLines items c states given_back middle after
+
+-- the same of a run with a log
+pub record WritesEndsAndLines {C J V : Type 0} (inner : C → Account) (account : Wrapped C J → Account)
+    (offered : Wrapped C J → List Offer → Wrapped C J → Type 0) (items : V → List (Wrapped C J)) (can_fail is_open : Bool) (c : Config) (zone : Zone)
+    (tries : ℕ) (states : List LaneState) (posts : List (Post (Wrapped C J))) (given_back : List V) (known : Option (List ℕ)) (ending : Ending)
+    (before after : Option (List ℕ)) : Type 0 where
+  pub middle : Option (List ℕ)
+  pub ends : WritesResumedEnds inner account offered items can_fail is_open c zone tries states posts given_back known ending before middle
+  pub lines : AddsLines items c states given_back middle after
+
 -- These channels, in the order of their lanes, each over its journal.
 pub record ArePosted {C D W : Type 0} (channel_of : C → D) (c : Config) (states : List LaneState) (lanes : List LaneId) (channels : List D)
     (posts : List (Post (Wrapped C (Text W)))) : Type 0 where
@@ -117,9 +150,7 @@ abbrev pub ResumesWith : {C D W V : Type 0} → (inner : C → Account) → (acc
     → (given_back : List V) → (known : Option (List ℕ)) → Ending → (before after : Option (List ℕ)) → Type 0
 ResumesWith {C} {D} {W} inner account offered items channel_of can_fail is_open c zone tries states lanes channels given_back known ending before after =
     (posts : List (Post (Wrapped C (Text W)))) × ArePosted channel_of c states lanes channels posts
-    × (middle : Option (List ℕ))
-    × WritesResumedRun inner account offered items can_fail is_open c zone tries states posts given_back known ending before middle
-    × AddsLines items c states given_back middle after
+    × WritesRunAndLines inner account offered items can_fail is_open c zone tries states posts given_back known ending before after
 
 -- the same of a run with a log
 abbrev pub LogsWith : {C D W V : Type 0} → (inner : C → Account) → (account : Wrapped C (Text W) → Account)
@@ -128,9 +159,7 @@ abbrev pub LogsWith : {C D W V : Type 0} → (inner : C → Account) → (accoun
     → (given_back : List V) → (known : Option (List ℕ)) → Ending → (before after : Option (List ℕ)) → Type 0
 LogsWith {C} {D} {W} inner account offered items channel_of can_fail is_open c zone tries states lanes channels given_back known ending before after =
     (posts : List (Post (Wrapped C (Text W)))) × ArePosted channel_of c states lanes channels posts
-    × (middle : Option (List ℕ))
-    × WritesResumedEnds inner account offered items can_fail is_open c zone tries states posts given_back known ending before middle
-    × AddsLines items c states given_back middle after
+    × WritesEndsAndLines inner account offered items can_fail is_open c zone tries states posts given_back known ending before after
 
 -- What the feed made due by the events that were counted was given up in the journals of the lanes, as far as it wasn't sent.
 pub record IsGivenUpSoFar {F J : Type 0} (knows : F → Config → LaneId → LanePast → Type 0) (begins : F → Config → LaneId → ℕ → J → Type 0)

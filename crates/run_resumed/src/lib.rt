@@ -3,7 +3,9 @@
 #![tactic(auto)]
 
 pub mod fault;
+pub mod inner;
 pub mod journal_lines;
+mod journaled_run;
 pub mod posts;
 mod ready;
 pub mod resumed;

@@ -4,6 +4,7 @@ ghost use Rattle.std.specs.Prelude.{◌≡◌, map, All, IfOk, OnOk};
 ghost use Rattle.std.specs.Arc.{arc_value};
 ghost use Rattle.run_resumed.specs.Resumed.{IsResumedPost};
 
+use crate::inner::RunChannel;
 use due_model::config::{Config, LaneId};
 use earlier_runs::LaneState;
 use engine::Post;
@@ -14,7 +15,7 @@ use std::alloc::Global;
 use std::sync::Arc;
 
 /// A channel of a run that goes on.
-pub type ResumedChannel = Journaled<SentChannel, FileJournal>;
+pub type ResumedChannel = Journaled<RunChannel, FileJournal>;
 
 /// Puts each channel over its journal, by what earlier runs left of its lane.
 pub fn resumed_posts(
@@ -25,7 +26,7 @@ pub fn resumed_posts(
     posts: Vec<Post<SentChannel>>,
 ) -> Result<Vec<Post<ResumedChannel>>, FolderFault>
     ensures lanes { IfOk result (λ found. map (λ post. post.lane) found.items ≡ map (λ post. post.lane) posts.items) }
-    ensures inner { IfOk result (λ found. map (λ post. post.channel.inner) found.items ≡ map (λ post. post.channel) posts.items) }
+    ensures inner { IfOk result (λ found. map (λ post. post.channel.inner.sent) found.items ≡ map (λ post. post.channel) posts.items) }
     ensures each { IfOk result (λ found. All (IsResumedPost (arc_value config.now) states.now) found.items) }
 {
     let mut found = Vec::with_capacity(alloc, posts.len())?;
@@ -47,7 +48,7 @@ fn resumed_post(
     number: u8,
 ) -> Result<Post<ResumedChannel>, FolderFault>
     ensures lane { IfOk result (λ found. found.lane ≡ post.lane) }
-    ensures inner { IfOk result (λ found. found.channel.inner ≡ post.channel) }
+    ensures inner { IfOk result (λ found. found.channel.inner.sent ≡ post.channel) }
     ensures each { IfOk result (IsResumedPost (arc_value config.now) states.now) }
 {
     let Post { lane, channel } = post;
@@ -55,6 +56,7 @@ fn resumed_post(
         return Err(FolderFault::NotWritten(lane, number));
     };
     let journal = folder.journal(config, lane, number, state.from)?;
+    let channel = RunChannel::new(channel);
     let channel = Journaled::new(alloc, channel, journal, Arc::try_clone(&state.past)?);
     Ok(Post { lane, channel })
 }

@@ -9,6 +9,6 @@ use Rattle.run_resumed.proofs.posts.resumed_posts.Given as goal
 abbrev pub invariant-loop-post : goal.invariant-loop-post
 invariant-loop-post l =
     (map (λ post. post.lane) l.found.items ≡ map (λ post. post.lane) l.yielded)
-    × (map (λ post. post.channel.inner) l.found.items ≡ map (λ post. post.channel) l.yielded)
+    × (map (λ post. post.channel.inner.sent) l.found.items ≡ map (λ post. post.channel) l.yielded)
     × All (IsResumedPost (arc_value l.config) l.states) l.found.items
     × (l.yielded ++ into_iter_items l.post-iterator ≡ l.fn.posts.items)

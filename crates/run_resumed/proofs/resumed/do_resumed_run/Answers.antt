@@ -35,13 +35,13 @@ returns-clause-ok g c =
       ready = record {
         lanes = ready.lanes.items;
         posted = run.1.posted;
-        right = opened_same c.in_ok-ready.ensures.right (ap (map opened) (sym run.1.channels_are) ∙ map-map opened (λ post. post.channel.inner.channel) run.0);
+        right = opened_same c.in_ok-ready.ensures.right (ap (map opened) (sym run.1.channels_are) ∙ map-map opened (λ post. post.channel.inner.sent.channel) run.0);
         each = run.1.each;
         kept = c.in_ok-ready.ensures.kept;
         due = c.in_ok-ready.ensures.same.0;
         same = c.in_ok-ready.ensures.same.1;
       };
-      middle = run.2;
-      report = run.3;
-      lines = run.4;
+      middle = run.2.middle;
+      report = run.2.report;
+      lines = run.2.lines;
     }
