@@ -4,11 +4,17 @@ use Rattle.std.specs.Prelude.{slice_get}
 use Rattle.std.proofs.lemmas.Bool.{cases_eq}
 use Rattle.std.proofs.lemmas.Grind.{flat_map-append}
 use Rattle.std.proofs.lemmas.List.{get_or_append_left, get_or_push}
-use Rattle.std.proofs.lemmas.Option.{slice_get_cases, slice_get-get_or}
+use Rattle.std.specs.Option.{option_map}
+use Rattle.std.proofs.lemmas.Option.{slice_get_cases, slice_get_past, slice_get-get_or, slice_get-map}
 use Rattle.due_model.specs.declared.config.Config.{Config}
+use Rattle.due_model.specs.declared.notice.Notice.{Notice}
+use Rattle.journaled.specs.Claims.{Past}
 use Rattle.journaled.specs.Wrapped.{Wrapped}
 use Rattle.earlier_runs.specs.declared.left.LaneState.{LaneState}
-use Rattle.run_resumed.specs.JournalLines.{HasLines, IsLine}
+use Rattle.earlier_runs.specs.declared.tally.LaneTally.{LaneTally}
+use Rattle.earlier_runs.specs.State.{past_in}
+use Rattle.earlier_runs.specs.Tally.{IsTally, journal_line}
+use Rattle.run_resumed.specs.JournalLines.{HasLines, IsLine, taken_by}
 
 -- one within a list
 some_within : {X : Type 0} (xs : List X) (l : ℕ) (x : X) → slice_get xs l ≡ Some x → (l < length xs) × (get_or xs l x ≡ x)
@@ -73,19 +79,51 @@ module _ {C J : Type 0} (c : Config) (states : List LaneState) (channels : List 
           subst (λ (k : ℕ). IsLine c k (slice_get states k) (slice_get channels k) line) here
           (subst (λ (xs : List ℕ). IsLine c count (slice_get states count) (slice_get channels count) xs) e.1 is)
 
--- a lane of which nothing is known has no line
-pub stateless_line : {C J : Type 0} (c : Config) (l : ℕ) (found : Option LaneState) (channels : Option (List (Wrapped C J))) → found ≡ None → IsLine c l found channels []
-stateless_line {C} {J} c l found channels none = subst (λ (o : Option LaneState). IsLine c l o channels []) (sym none) refl
+-- ---- of one lane
 
-pub channelless_line : {C J : Type 0} (c : Config) (l : ℕ) (found : Option LaneState) (channels : Option (List (Wrapped C J))) → channels ≡ None → IsLine c l found channels []
-channelless_line {C} {J} c l found channels none = subst (λ (o : Option (List (Wrapped C J))). IsLine c l found o []) (sym none) (by found)
+-- of a lane of which nothing is known none is added
+pub no_state_line : {C J : Type 0} (c : Config) (l place : ℕ) (states : List LaneState) (channels : Option (List (Wrapped C J))) (before after : List ℕ) → place ≡ l
+    → length states ≤ place → after ≡ before → (line : List ℕ) × (after ≡ before ++ line) × IsLine c l (slice_get states l) channels line
+no_state_line {C} {J} c l place states channels before after here past same =
+    let none : slice_get states l ≡ None = slice_get_past states l (subst (λ (n : ℕ). length states ≤ n) here past) in
+    ([], same ∙ sym (append-nil before), subst (λ (o : Option LaneState). IsLine c l o channels []) (sym none) refl)
+
+-- nor of one that has no channels
+pub no_channels_line : {C J V : Type 0} (items : V → List (Wrapped C J)) (c : Config) (l place : ℕ) (state : Option LaneState) (channels : List V) (before after : List ℕ) → place ≡ l
+    → length channels ≤ place → after ≡ before → (line : List ℕ) × (after ≡ before ++ line) × IsLine c l state (slice_get (map items channels) l) line
+no_channels_line {C} {J} {V} items c l place state channels before after here past same =
+    let none : slice_get (map items channels) l ≡ None =
+    slice_get-map items channels l ∙ ap (option_map items) (slice_get_past channels l (subst (λ (n : ℕ). length channels ≤ n) here past)) in
+    ([], same ∙ sym (append-nil before), subst (λ (o : Option (List (Wrapped C J))). IsLine c l state o []) (sym none) (by state))
   where
-    by : (found : Option LaneState) → IsLine {C = C} {J = J} c l found None []
+    by : (state : Option LaneState) → IsLine {C = C} {J = J} c l state None []
     by None = refl
-    by (Some state) = refl
+    by (Some s) = refl
 
-pub this_line : {C J : Type 0} (c : Config) (l : ℕ) (found : Option LaneState) (channels : Option (List (Wrapped C J))) (state : LaneState) (of_lane : List (Wrapped C J)) (line : List ℕ)
-    → found ≡ Some state → channels ≡ Some of_lane → IsLine c l (Some state) (Some of_lane) line → IsLine c l found channels line
-this_line {C} {J} c l found channels state of_lane line one two is =
-    subst (λ (o : Option LaneState). IsLine c l o channels line) (sym one)
-    (subst (λ (o : Option (List (Wrapped C J))). IsLine c l (Some state) o line) (sym two) is)
+-- that of a lane of which something is known, and which has channels
+pub number_line : {C J V : Type 0} (items : V → List (Wrapped C J)) (c : Config) (l place : ℕ) (states : List LaneState) (channels : List V) (state : LaneState) (v : V)
+    (of_lane : List (Wrapped C J)) (before after : List ℕ) → place ≡ l → place < length states → state ≡ get_or states place state → place < length channels
+    → v ≡ get_or channels place v → of_lane ≡ items v → (line : List ℕ) × (after ≡ before ++ line) × IsLine c l (Some state) (Some of_lane) line
+    → (line : List ℕ) × (after ≡ before ++ line) × IsLine c l (slice_get states l) (slice_get (map items channels) l) line
+number_line {C} {J} {V} items c l place states channels state v of_lane before after here within is within' is' same (line, grown, one) =
+    let at : slice_get states l ≡ Some state = subst (λ (n : ℕ). slice_get states n ≡ Some state) here (slice_get-get_or states place state within ∙ ap Some (sym is)) in
+    let found : slice_get channels l ≡ Some v = subst (λ (n : ℕ). slice_get channels n ≡ Some v) here (slice_get-get_or channels place v within' ∙ ap Some (sym is')) in
+    let at' : slice_get (map items channels) l ≡ Some of_lane = slice_get-map items channels l ∙ ap (option_map items) found ∙ ap Some (sym same) in (
+      line,
+      grown,
+      subst (λ (o : Option LaneState). IsLine c l o (slice_get (map items channels) l) line) (sym at)
+      (subst (λ (o : Option (List (Wrapped C J))). IsLine c l (Some state) o line) (sym at') one),
+    )
+
+-- the line of a lane, which counts what its channels took
+pub lane_line : {C J : Type 0} (c : Config) (l : ℕ) (state : LaneState) (channels : List (Wrapped C J)) (tally : LaneTally) (past : Past) (taken : List Notice)
+    (before after : List ℕ) → past ≡ past_in state → taken ≡ taken_by channels → IsTally past taken tally → tally.earlier ≡ state.earlier
+    → after ≡ before ++ journal_line c l tally → (line : List ℕ) × (after ≡ before ++ line) × IsLine c l (Some state) (Some channels) line
+lane_line {C} {J} c l state channels tally past taken before after same took is earlier grown = (
+  journal_line c l tally,
+  grown,
+  tally,
+  subst (λ (x : Past). IsTally x (taken_by channels) tally) same (subst (λ (ns : List Notice). IsTally past ns tally) took is),
+  earlier,
+  refl,
+)

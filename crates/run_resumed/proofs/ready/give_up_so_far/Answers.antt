@@ -4,8 +4,8 @@ use Rattle.due_feed.specs.Seen.{due_of, past_of}
 use Rattle.earlier_runs.specs.FromNow.{GivesUpAll}
 use Rattle.run_resumed.proofs.ready.give_up_so_far.Goals as goal
 
-pub returns-in-Some : goal.returns-in-Some
-returns-in-Some g c = λ _.
+pub returns-in_ok-give_up_all-in-Some : goal.returns-in_ok-give_up_all-in-Some
+returns-in_ok-give_up_all-in-Some g c = λ _.
     let given = c.in_ok-give_up_all.ensures in
     let config = arc_value c.args.config.now in
     record {
