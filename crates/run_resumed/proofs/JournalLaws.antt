@@ -112,7 +112,7 @@ number_line {C} {J} {V} items c l place states channels state v of_lane before a
       line,
       grown,
       subst (λ (o : Option LaneState). IsLine c l o (slice_get (map items channels) l) line) (sym at)
-      (subst (λ (o : Option (List (Wrapped C J))). IsLine c l (Some state) o line) (sym at') one),
+          (subst (λ (o : Option (List (Wrapped C J))). IsLine c l (Some state) o line) (sym at') one),
     )
 
 -- the line of a lane, which counts what its channels took

@@ -242,16 +242,7 @@ fn log_on<'a, T: Threads + Wait + Clock + Sync, R: Input + Drop, W: Sink>(
         run: settings.run,
         fold,
     };
-    let done = log_posted(
-        watched,
-        &config,
-        zone,
-        logged,
-        &kept,
-        posts,
-        feed,
-        writer,
-    )?;
+    let done = log_posted(watched, &config, zone, logged, &kept, posts, feed, writer)?;
     Ok(done)
 }
 
