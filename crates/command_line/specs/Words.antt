@@ -14,9 +14,12 @@ use Rattle.steps.specs.declared.settings.Settings.{Settings}
 use Rattle.steps.specs.Settings.{AreSettings, max_channels}
 use Rattle.clap.specs.declared.builder.action.ArgAction.TheVariants.{Append}
 use Rattle.clap.specs.declared.builder.value_parser.ValueParser.TheVariants.{Signed}
+use Rattle.command_line.specs.State.{IsStateOf, state_fault, with_state_options}
 use Rattle.command_line.specs.Check.{check_words, IsCheckOf, LacksCheck}
 use Rattle.command_line.specs.Why.{IsWhyOf, LacksWhy, why_words}
 pub use Rattle.command_line.specs.Options.{flag_option, IsFlag, text_option, with_zone}
+use Rattle.command_line.specs.declared.state.FeedFault.{FeedFault}
+use Rattle.command_line.specs.declared.state.FeedFault.TheVariants.{NoFeed}
 use Rattle.command_line.specs.declared.words.FeedWords.{FeedWords}
 use Rattle.command_line.specs.declared.words.LogWords.{LogWords}
 use Rattle.command_line.specs.declared.words.Request.{Request}
@@ -78,6 +81,7 @@ pub record IsFeedOf (options : Found) (feed : FeedWords) : Type 0 where
   pub file : option_copied feed.file ≡ first_value options (codes "feed")
   pub follow : IsFlag options (codes "follow") feed.follow
   pub clock : IsFlag options (codes "clock") feed.clock
+  pub state : IsStateOf options feed.state
 
 -- the numbers that the options of a command hold of a lane
 pub record HoldSettings (options : Found) (settings : Settings) : Type 0 where
@@ -205,16 +209,20 @@ request_zone (Diff objects changed zone json) = zone
 request_zone (Why objects zone asked) = zone
 request_zone (Check zone asked) = zone
 
--- it says how a file is read as the feed, and names none
-abbrev pub lacks_feed : Request → Bool
-lacks_feed (Replay objects zone shown) = false
-lacks_feed (Trace settings standbys zone) = false
-lacks_feed (Run objects settings zone channels times quiet ahead log feed) =
-    is_none feed.file && (feed.follow || feed.clock)
-lacks_feed (Who objects zone asked) = false
-lacks_feed (Diff objects changed zone json) = false
-lacks_feed (Why objects zone asked) = false
-lacks_feed (Check zone asked) = false
+-- It says how a file is read as the feed, or what is kept for it, and names none; or what it says of what is kept is wrong.
+abbrev pub fault_of : FeedWords → (ahead : Option ℕ) → Option FeedFault
+fault_of feed ahead =
+    if is_none feed.file && (feed.follow || feed.clock || is_some feed.state.folder) then Some NoFeed
+    else state_fault feed.state ahead
+
+abbrev pub feed_fault : Request → Option FeedFault
+feed_fault (Replay objects zone shown) = None
+feed_fault (Trace settings standbys zone) = None
+feed_fault (Run objects settings zone channels times quiet ahead log feed) = fault_of feed ahead
+feed_fault (Who objects zone asked) = None
+feed_fault (Diff objects changed zone json) = None
+feed_fault (Why objects zone asked) = None
+feed_fault (Check zone asked) = None
 
 -- it gives a rule, or a file
 abbrev pub is_given : ZoneWords → Bool
@@ -333,15 +341,15 @@ with_log_options app =
     (flag_option (codes "json"))
 
 -- `run` has the file of the object text, which must be given, how many deciders there are, how many notices a lane's queue holds,
--- these, how far ahead a stamp may be, where its report and its metrics go, `--quiet`, where the feed is read from, and the channel words
+-- these, how far ahead a stamp may be, where its report and its metrics go, `--quiet`, where the feed is read from, what is kept, and the channel words
 abbrev pub run_words : App
 run_words =
-    with_rule (with_zone (with_feed_options (with_rule (with_log_options (with_rule (with_try_options (with_rule (with_rule (with_rule (new_app (codes "run"))
+    with_rule (with_zone (with_state_options (with_feed_options (with_rule (with_log_options (with_rule (with_try_options (with_rule (with_rule (with_rule (new_app (codes "run"))
     (record (text_option (codes "objects")) { required = true }))
     (number_option (codes "deciders") (codes "2") 1 8))
     (number_option (codes "queue") (codes "64") 1 1024)))
     (bare_number_option (codes "ahead") 0 4294967295)))
-    (flag_option (codes "quiet"))))) (word_list (codes "channel"))
+    (flag_option (codes "quiet")))))) (word_list (codes "channel"))
 
 -- `--NAME TEXT`, any number of times
 abbrev pub text_options : List ℕ → Rule

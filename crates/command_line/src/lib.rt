@@ -7,6 +7,7 @@ mod diff;
 mod options;
 mod replay;
 mod run;
+pub mod state;
 mod trace;
 mod who;
 pub mod why;
@@ -14,5 +15,6 @@ pub mod words;
 
 pub use asked::{command, request_of};
 pub use check::CheckWords;
+pub use state::{FeedFault, StateWords};
 pub use why::WhyWords;
 pub use words::{FeedWords, LogWords, Request, ShownWords, WhoWords, ZoneWords};

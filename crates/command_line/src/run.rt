@@ -13,6 +13,7 @@ use crate::options::{
     deciders_of, deciders_option, flag_option, queue_option, settings_of, text_option, with_zone,
     zone_words,
 };
+use crate::state::{state_words, with_state_options};
 use crate::words::{FeedWords, LogWords, Request, TryTimes};
 use clap::{Arg, ArgMatches, Command, value_parser};
 use std::alloc::{AllocError, Global};
@@ -35,6 +36,10 @@ the command stay undelivered. What fails is said on standard error as it goes, w
 --quiet. With --ahead a line whose stamp is more than so many seconds past this machine's
 clock is refused, since no later message could have an earlier moment.
 
+With --feed and --state a run may be killed at any moment. The next one with the same FILE
+and DIR sends what wasn't sent, and nothing twice but the message that was in hand of each
+command: that has a line `Again: yes`.
+
 Once the feed is over, standard output gets the lines below. With --log they go to that file
 as they happen, each as soon as it is known, and standard output gets the G and Z lines
 alone; a file that is moved away is opened anew. With --fold an S line that only repeats the
@@ -54,7 +59,14 @@ and then, for each command that contacts list,
   G;command;n;count                                        of several words: what number n,
                                                            from 0, has taken
   Z;command;why                                            why it was closed: FeedOver, Failed,
-                                                           NoChannel or NoMemory";
+                                                           NoChannel or NoMemory
+
+and with --state, last,
+
+  J;command;earlier;claimed;new;again                      how many messages earlier runs have
+                                                           settled, how many of those were due
+                                                           again, how many were sent now, and
+                                                           how many of these may have been before";
 
 /// The option that says how often a run tries a message.
 fn run_tries_option<'a>(alloc: Global) -> Arg<'a>
@@ -200,7 +212,8 @@ pub(crate) fn run_command<'a>(alloc: Global) -> Result<Command<'a>, AllocError>
     let quiet = "Says nothing on standard error of what fails as it goes";
     let with_quiet = with_log.arg(flag_option(alloc, "quiet", quiet))?;
     let with_feed = with_feed_options(alloc, with_quiet)?;
-    let with_options = with_zone(alloc, with_feed)?;
+    let with_state = with_state_options(alloc, with_feed)?;
+    let with_options = with_zone(alloc, with_state)?;
     with_options.arg(channel_words(alloc))
 }
 
@@ -242,6 +255,7 @@ fn feed_words<'a>(options: &ArgMatches<'a>) -> FeedWords<'a>
         file: options.get_str("feed"),
         follow: options.get_flag("follow"),
         clock: options.get_flag("clock"),
+        state: state_words(options),
     }
 }
 

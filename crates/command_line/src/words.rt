@@ -4,10 +4,11 @@ ghost use Rattle.std.specs.Prelude.{◌≡◌};
 ghost use Rattle.std.specs.List.{list_all};
 ghost use Rattle.std.specs.Option.{option_copied};
 ghost use Rattle.command_line.specs.Words.{has_bad_letters, asks_bad_letters, asks_two_forms, has_two_forms};
-ghost use Rattle.command_line.specs.Words.{is_given, is_line_letter, is_plain, lacks_feed};
+ghost use Rattle.command_line.specs.Words.{is_given, is_line_letter, is_plain, fault_of, feed_fault};
 ghost use Rattle.command_line.specs.Words.{request_zone};
 
 use crate::check::CheckWords;
+use crate::state::{FeedFault, StateWords};
 use crate::why::WhyWords;
 use steps::Settings;
 
@@ -127,6 +128,20 @@ pub struct FeedWords<'a> {
     pub follow: bool,
     /// Whether a line `CLOCK` is added to the file at each full minute.
     pub clock: bool,
+    /// What is kept for later runs.
+    pub state: StateWords<'a>,
+}
+
+impl FeedWords<'_> {
+    /// What is wrong with it, where stamps may be so far ahead, if there is a limit.
+    fn fault(self, ahead: Option<u32>) -> Option<FeedFault>
+        ensures { result ≡ fault_of self.entry ahead }
+    {
+        if self.file.is_none() && (self.follow || self.clock || self.state.folder.is_some()) {
+            return Some(FeedFault::NoFeed);
+        }
+        self.state.fault(ahead)
+    }
 }
 
 /// What the program is asked to do.
@@ -222,13 +237,13 @@ impl<'a> Request<'_, 'a> {
         }
     }
 
-    /// Whether it says how a file is read as the feed, and names none.
-    pub fn lacks_feed(self) -> bool
-        ensures { result ≡ lacks_feed self.entry }
+    /// What is wrong with what it says of the feed of a run.
+    pub fn feed_fault(self) -> Option<FeedFault>
+        ensures { result ≡ feed_fault self.entry }
     {
         match self {
-            Request::Run { feed, .. } => feed.file.is_none() && (feed.follow || feed.clock),
-            _ => false,
+            Request::Run { feed, ahead, .. } => feed.fault(ahead),
+            _ => None,
         }
     }
 

@@ -47,6 +47,15 @@ channel_name field =
 abbrev pub closed_name : ℕ → List ℕ
 closed_name field = if field == 1 then codes ",\"command\":" else codes ",\"why\":"
 
+-- J;command;earlier;claimed;new;again
+abbrev pub journal_name : ℕ → List ℕ
+journal_name field =
+    if field == 1 then codes ",\"command\":"
+    else if field == 2 then codes ",\"earlier\":"
+    else if field == 3 then codes ",\"claimed\":"
+    else if field == 4 then codes ",\"new\":"
+    else codes ",\"again\":"
+
 abbrev pub field_name : (letter field : ℕ) → List ℕ
 field_name letter field =
     if letter == 82 then refused_name field
@@ -54,6 +63,7 @@ field_name letter field =
     else if letter == 67 then refused_contact_name field
     else if letter == 71 then channel_name field
     else if letter == 90 then closed_name field
+    else if letter == 74 then journal_name field
     else letter_name field
 
 -- ---- what they are
@@ -76,6 +86,6 @@ abbrev pub field_kind : (letter field : ℕ) → FieldKind
 field_kind letter field =
     if (letter == 83) || (letter == 67) then suppression_kind letter field
     else if letter == 82 then number_at 1 field
-    else if letter == 71 then count_kind field
+    else if (letter == 71) || (letter == 74) then count_kind field
     else if letter == 90 then Text
     else number_at 2 field

@@ -2,7 +2,7 @@
 
 ghost use Rattle.std.specs.Prelude.{◌≡◌};
 ghost use Rattle.json_report.specs.Fields.{channel_name, closed_name, count_kind, field_kind};
-ghost use Rattle.json_report.specs.Fields.{field_name, head_name, letter_name};
+ghost use Rattle.json_report.specs.Fields.{field_name, head_name, journal_name, letter_name};
 ghost use Rattle.json_report.specs.Fields.{number_at, refused_contact_name, refused_name};
 ghost use Rattle.json_report.specs.Fields.{stopped_name, suppression_kind};
 
@@ -109,6 +109,23 @@ fn closed_name(field: u8) -> &'static [u8]
     }
 }
 
+/// The same of a field of a J line.
+fn journal_name(field: u8) -> &'static [u8]
+    ensures { result.now ≡ journal_name field }
+{
+    if field == 1 {
+        b",\"command\":"
+    } else if field == 2 {
+        b",\"earlier\":"
+    } else if field == 3 {
+        b",\"claimed\":"
+    } else if field == 4 {
+        b",\"new\":"
+    } else {
+        b",\"again\":"
+    }
+}
+
 /// What comes before the value of a field: a comma, its name and a colon. The field is known by the letter of its line and its number, which is 1 for the first.
 pub(crate) fn field_name(letter: u8, field: u8) -> &'static [u8]
     ensures { result.now ≡ field_name letter field }
@@ -123,6 +140,8 @@ pub(crate) fn field_name(letter: u8, field: u8) -> &'static [u8]
         channel_name(field)
     } else if letter == b'Z' {
         closed_name(field)
+    } else if letter == b'J' {
+        journal_name(field)
     } else {
         letter_name(field)
     }
@@ -154,7 +173,7 @@ fn suppression_kind(letter: u8, field: u8) -> FieldKind
     }
 }
 
-/// What a field of a G line is.
+/// What a field of a G or J line is.
 fn count_kind(field: u8) -> FieldKind
     ensures { result ≡ count_kind field }
 {
@@ -173,7 +192,7 @@ pub(crate) fn field_kind(letter: u8, field: u8) -> FieldKind
         suppression_kind(letter, field)
     } else if letter == b'R' {
         number_at(1, field)
-    } else if letter == b'G' {
+    } else if letter == b'G' || letter == b'J' {
         count_kind(field)
     } else if letter == b'Z' {
         FieldKind::Text

@@ -1,4 +1,8 @@
-//! The runs of a feed: of standard input, and of a file.
+//! The runs of a feed: of standard input, of a file, and those that go on where earlier ones have ended.
+
+ghost use Rattle.std.specs.Prelude.{◌≡◌, IfErr};
+ghost use Rattle.std.specs.Process.{exit_status};
+ghost use Rattle.run_resumed.specs.Fault.{resume_status};
 
 use crate::faults::say_more_of_run;
 use crate::{out_of_memory, status_of_run};
@@ -11,8 +15,11 @@ use run_devices::{
     FeedTimes, LogPlace, LoggedWords, MeteredFeed, MetricsPlace, RunFault, RunSettings, RunWords,
     do_logged_run, do_run,
 };
+use run_resumed::{
+    ResumeFault, Resumed, ResumedSettings, StateSettings, do_logged_resumed_run, do_resumed_run,
+};
 use std::alloc::{AllocError, Global};
-use std::io;
+use std::io::{self, Eprint};
 use std::process::ExitCode;
 use std::rt::{Stdin, Stdout};
 use std::sync::{Arc, Wait};
@@ -95,7 +102,18 @@ pub(crate) fn status_of_feed<T: Threads + Wait + Clock + Sync>(
         channels,
         metrics,
     };
-    status_of_opened(rt, threads, zone, words, settings, log, opened)
+    status_of_opened(rt, threads, zone, words, settings, log, feed, opened)
+}
+
+/// How a run goes on where earlier ones have ended, if it does.
+fn resumed_settings<'a>(run: RunSettings, feed: FeedWords<'a>) -> Option<ResumedSettings<'a>> {
+    let state = StateSettings {
+        folder: feed.state.folder?,
+        feed: feed.file.unwrap_or(""),
+        drops_doubt: feed.state.drops_doubt(),
+        from_now: feed.state.from_now,
+    };
+    Some(ResumedSettings { run, state })
 }
 
 /// Does a run of a feed that was opened, and gives its exit status.
@@ -106,9 +124,13 @@ fn status_of_opened<T: Threads + Wait + Clock + Sync>(
     words: RunWords<'_, '_>,
     settings: RunSettings,
     log: LogWords<'_>,
+    feed: FeedWords<'_>,
     opened: RunFeed,
 ) -> ExitCode {
     let mut writer = writer_of(rt, zone, log.json);
+    if let Some(settings) = resumed_settings(settings, feed) {
+        return status_of_resumed(rt, threads, zone, words, settings, log, opened, &mut writer);
+    }
     match log.file {
         Some(file) => {
             let fold = log.fold;
@@ -167,4 +189,45 @@ fn status_of_done(
         say_more_of_run(rt, objects, channels, settings, fault);
     }
     status
+}
+
+/// Does a run that goes on where earlier ones have ended, with a log or without, and gives its exit status.
+fn status_of_resumed<T: Threads + Wait + Clock + Sync>(
+    rt: &HostRuntime,
+    threads: &T,
+    zone: &Zone,
+    words: RunWords<'_, '_>,
+    settings: ResumedSettings<'_>,
+    log: LogWords<'_>,
+    feed: RunFeed,
+    writer: &mut RunWriter<'_>,
+) -> ExitCode {
+    let outcome = match log.file {
+        Some(file) => {
+            let fold = log.fold;
+            let log = LogPlace { file, fold };
+            do_logged_resumed_run(rt, threads, zone, words, settings, log, feed, writer)
+        }
+        None => do_resumed_run(rt, threads, zone, words, settings, feed, writer),
+    };
+    let fault = match &outcome {
+        Err(ResumeFault::Run(fault)) => Some(*fault),
+        _ => None,
+    };
+    let status = status_of_outcome(rt, outcome);
+    if let Some(fault) = fault {
+        say_more_of_run(rt, words.objects, words.channels, settings.run, fault);
+    }
+    status
+}
+
+/// Says on standard error what a run that goes on failed with, if it did and that wasn't said, and gives its exit status.
+fn status_of_outcome<R: Eprint>(rt: &R, outcome: Result<Resumed, ResumeFault<'_>>) -> ExitCode
+    ensures { IfErr outcome (λ fault. exit_status result ≡ resume_status fault.entry) }
+{
+    match outcome {
+        Ok(done) => status_of_run(rt, Ok(done.ending)),
+        Err(ResumeFault::Run(fault)) => status_of_run(rt, Err(fault)),
+        Err(ResumeFault::State) => ExitCode::from(1),
+    }
 }

@@ -1,11 +1,11 @@
 //! The program `notify-run`: its command line, and how each command ends.
 #![tactic(auto)]
 
-ghost use Rattle.std.specs.Prelude.{◌≡◌, ◌<◌, true};
+ghost use Rattle.std.specs.Prelude.{◌≡◌, ◌<◌, is_some, true};
 ghost use Rattle.std.specs.Process.{exit_status};
 ghost use Rattle.clap.specs.Values.{kind_of};
 ghost use Rattle.command_output.specs.Outcome.{outcome_status};
-ghost use Rattle.command_line.specs.Words.{AreSettingsFit, AreTwo, asks_bad_letters, asks_two_forms, lacks_feed, request_zone};
+ghost use Rattle.command_line.specs.Words.{AreSettingsFit, AreTwo, asks_bad_letters, asks_two_forms, feed_fault, request_zone};
 ghost use Rattle.notify_run.specs.Refusal.{refusal_status};
 ghost use Rattle.notify_run.specs.Shown.{ArePickedBy, AreShownBy};
 ghost use Rattle.notify_run.specs.Zones.{IsBadRule};
@@ -310,14 +310,14 @@ fn status_of_request<T: Threads + Wait + Clock + Sync>(
     ensures two { AreTwo (request_zone request.entry) → exit_status result ≡ 2 }
     ensures rule { IsBadRule (request_zone request.entry) → exit_status result ≡ 2 }
     ensures letters { asks_bad_letters request.entry ≡ true → exit_status result ≡ 2 }
-    ensures feed { lacks_feed request.entry ≡ true → exit_status result ≡ 2 }
+    ensures feed { is_some (feed_fault request.entry) ≡ true → exit_status result ≡ 2 }
     ensures forms { asks_two_forms request.entry ≡ true → exit_status result ≡ 2 }
 {
     if request.asks_bad_letters() {
         return status_of_words(rt, "bad letters");
     }
-    if request.lacks_feed() {
-        return status_of_words(rt, "--follow and --clock need --feed");
+    if let Some(fault) = request.feed_fault() {
+        return status_of_words(rt, fault.text());
     }
     if request.asks_two_forms() {
         return status_of_words(rt, "two forms");

@@ -1,0 +1,5 @@
+pub mod CompareLaws
+mod DoubtLaws
+mod GivenLaws
+mod LeftLaws
+mod TallyLaws

@@ -1,0 +1,5 @@
+mod FaultLaws
+pub mod HandedLaws
+mod JournalLaws
+mod PostLaws
+mod TiedLaws

@@ -1,0 +1,9 @@
+use Rattle.std.proofs.Common.{length}
+use Rattle.written.specs.Written.{Leaves}
+use Rattle.run_resumed.proofs.journal_lines.write_whole.Given as goal
+
+abbrev pub invariant-loop-rest : goal.invariant-loop-rest
+invariant-loop-rest g l = Leaves (g.W.Write.contents l.fn.writer) (g.W.Write.contents l.writer) l.fn.bytes l.rest
+
+abbrev pub decreases-loop-rest : goal.decreases-loop-rest
+decreases-loop-rest g l = length l.rest
