@@ -49,12 +49,12 @@ push_cases {X} xs x l y at = by (cases_eq l (length xs))
 
 module _ {C J : Type 0} (c : Config) (states : List LaneState) (channels : List (List (Wrapped C J))) where
   -- of no lane there is none
-  pub no_lines : HasLines c states channels 0 []
-  no_lines = record {
+  pub no_lines : (text : List ℕ) → text ≡ [] → HasLines c states channels 0 text
+  no_lines text empty = record {
     lines = [];
     many = refl;
     each = λ l line at. absurd (none_some line at);
-    text_is = refl;
+    text_is = empty;
   }
     where
       none_some : (line : List ℕ) → None ≡ Some line → ⊥
@@ -122,8 +122,10 @@ pub lane_line : {C J : Type 0} (c : Config) (l : ℕ) (state : LaneState) (chann
 lane_line {C} {J} c l state channels tally past taken before after same took is earlier grown = (
   journal_line c l tally,
   grown,
-  tally,
-  subst (λ (x : Past). IsTally x (taken_by channels) tally) same (subst (λ (ns : List Notice). IsTally past ns tally) took is),
-  earlier,
-  refl,
+  (
+    tally,
+    subst (λ (x : Past). IsTally x (taken_by channels) tally) same (subst (λ (ns : List Notice). IsTally past ns tally) took is),
+    earlier,
+    refl,
+  ),
 )

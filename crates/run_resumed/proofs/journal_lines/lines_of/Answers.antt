@@ -3,7 +3,7 @@ use Rattle.run_resumed.proofs.JournalLaws.{line_more, no_lines}
 use Rattle.run_resumed.proofs.journal_lines.lines_of.Goals as goal
 
 pub loop-number-init : goal.loop-number-init
-loop-number-init c = no_lines c.args.config.now c.args.states.now (map (λ cs. cs.items) c.args.channels.now)
+loop-number-init c = no_lines c.args.config.now c.args.states.now (map (λ cs. cs.items) c.args.channels.now) c.new-text.result.items c.new-text.ensures.items
 
 pub loop-number-preserved : goal.loop-number-preserved
 loop-number-preserved c =
