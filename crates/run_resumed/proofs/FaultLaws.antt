@@ -42,6 +42,19 @@ are_right texts words words' config lanes read accepted same lanes_are = record 
   lanes_are = subst (λ (ws : List ChannelWord). AreLanesOf config (names_of ws) lanes) same lanes_are;
 }
 
+-- and its channels were opened, as these words ask for them
+pub are_opened : (texts : List (List ℕ)) (words words' : List ChannelWord) (config : Config) (lanes : List LaneId) (channels : List Opened) → AreRead texts words → IsAccepted config
+    → words' ≡ words → AreLanesOf config (names_of words') lanes → channels ≡ asked_from 0 words → AreOpened texts config lanes channels
+are_opened texts words words' config lanes channels read accepted same lanes_are is = record {
+  right = record {
+    words = words;
+    read = read;
+    accepted = accepted;
+    lanes_are = subst (λ (ws : List ChannelWord). AreLanesOf config (names_of ws) lanes) same lanes_are;
+  };
+  each = is;
+}
+
 -- ---- its channels
 
 -- the heads of lists, and what comes after them

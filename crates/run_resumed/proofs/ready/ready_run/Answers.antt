@@ -4,7 +4,7 @@ use Rattle.std.specs.Option.{option_map}
 use Rattle.channel_words.specs.Lanes.{AreLanesOf, lane_named, names_of}
 use Rattle.channel_words.specs.Words.{AreRead}
 use Rattle.run_devices.specs.Channels.{asked, opened}
-use Rattle.run_resumed.proofs.FaultLaws.{are_right, command_fails, each_opened, numbered_asked, opened_by, right_fails}
+use Rattle.run_resumed.proofs.FaultLaws.{are_opened, are_right, command_fails, each_opened, numbered_asked, opened_by, right_fails}
 use Rattle.run_resumed.proofs.TiedLaws.{opened_unused}
 use Rattle.run_resumed.proofs.ready.ready_run.Goals as goal
 
@@ -38,11 +38,9 @@ returns-clause-right c =
     let checks = c.in_ok-config.ensures.checked in
     let read = subst (λ texts. AreRead (map (λ text. text.now) texts) c.in_ok-read.read.items) c.texts_of.ensures c.in_ok-read.ensures.ok in
     opened_by
-    (record {
-      right = are_right _ c.in_ok-read.read.items _ c.in_ok-config.config c.in_ok-config.lanes.items read checks.accepted c.deref.ensures.value checks.lanes_are;
-      each = numbered_asked 0 c.in_ok-opened.opened.items c.in_ok-read.read.items
-          (subst (λ words. map opened c.in_ok-opened.opened.items ≡ map (asked 0) words) c.deref-2.ensures.value c.in_ok-opened.ensures.opened);
-    })
+    (are_opened _ c.in_ok-read.read.items _ c.in_ok-config.config c.in_ok-config.lanes.items _ read checks.accepted c.deref.ensures.value checks.lanes_are
+    (numbered_asked 0 c.in_ok-opened.opened.items c.in_ok-read.read.items
+    (subst (λ words. map opened c.in_ok-opened.opened.items ≡ map (asked 0) words) c.deref-2.ensures.value c.in_ok-opened.ensures.opened)))
     c.in_ok-config-2.ensures.ok
 
 pub returns-clause-each : goal.returns-clause-each
