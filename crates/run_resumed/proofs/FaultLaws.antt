@@ -1,5 +1,5 @@
 -- What a run that goes on fails with, and what it begins with.
-use Rattle.std.proofs.Common.{◌≡◌, ◌∙◌, ℕ, ◌+◌, suc, List, [], ◌∷◌, length, get_or, map, drop, refl, sym, ap, ap₂, subst, arith}
+use Rattle.std.proofs.Common.{◌≡◌, ◌∙◌, ℕ, ◌+◌, List, [], ◌∷◌, length, get_or, map, drop, refl, sym, ap, ap₂, subst, arith}
 use Rattle.std.proofs.lemmas.List.{length-map}
 use Rattle.due_model.specs.declared.config.Config.{Config}
 use Rattle.due_model.specs.declared.config.LaneId.{LaneId}
@@ -12,8 +12,7 @@ use Rattle.channel_kinds.specs.declared.device.AnyDevice.{AnyDevice}
 use Rattle.channel_kinds.specs.DeviceChannel.{Held}
 use Rattle.run_devices.specs.Channels.{Opened, asked, asked_from, numbered_from, opened}
 use Rattle.run_devices.specs.Done.{AreOpened}
-use Rattle.run_devices.specs.Fault.{AreRight, IsCommandFault, RunFails}
-use Rattle.run_devices.specs.declared.fault.RunFault.{RunFault}
+use Rattle.run_devices.specs.Fault.{AreRight}
 use Rattle.run_devices.specs.declared.fault.RunFault.TheVariants as faults
 use Rattle.run_resumed.specs.declared.fault.ResumeFault.{ResumeFault}
 use Rattle.run_resumed.specs.declared.fault.ResumeFault.TheVariants as resumes

@@ -1,12 +1,11 @@
 -- Of a run that goes on: lane by lane, what its channels have handed on.
-use Rattle.std.proofs.Common.{◌≡◌, ◌==◌, ◌<◌, ◌+◌, ℕ, Bool, true, false, List, [], ◌∷◌, filter, get_or, length, map, Option, None, Some, refl, sym, ap, ◌∙◌, subst, arith}
+use Rattle.std.proofs.Common.{◌≡◌, ◌==◌, ◌<◌, ◌+◌, ℕ, Bool, true, List, [], ◌∷◌, filter, get_or, length, map, Option, Some, refl, sym, ◌∙◌, subst, arith}
 use Rattle.std.specs.Prelude.{All, slice_get}
 use Rattle.std.proofs.lemmas.List.Elements.{All-cons, All-filter, All-head, All-map, All-nil, All-tail, filter_passes}
 use Rattle.std.proofs.lemmas.Option.{slice_get-get_or}
 use Rattle.channel.specs.Channels.{Account, Offer}
 use Rattle.channel_kinds.specs.declared.device.AnyDevice.{AnyDevice}
 use Rattle.channel_kinds.specs.DeviceChannel.{Held}
-use Rattle.channel_words.specs.Lanes.{channels_for}
 use Rattle.channel_words.specs.declared.word.ChannelWord.{ChannelWord}
 use Rattle.command_output.specs.declared.outcome.Ending.{Ending}
 use Rattle.due_model.specs.declared.config.Config.{Config}

@@ -1,10 +1,8 @@
-use Rattle.std.proofs.Common.{◌≡◌, ◌∙◌, [], Some, map, rules, subst}
-use Rattle.std.specs.Prelude.{unwrap_or}
-use Rattle.std.specs.Option.{option_map}
+use Rattle.std.proofs.Common.{◌≡◌, Some, map, rules, subst}
 use Rattle.channel_words.specs.Lanes.{AreLanesOf, lane_named, names_of}
 use Rattle.channel_words.specs.Words.{AreRead}
 use Rattle.run_devices.specs.Channels.{asked, opened}
-use Rattle.run_resumed.proofs.FaultLaws.{are_opened, are_right, command_fails, each_opened, numbered_asked, opened_by, right_fails}
+use Rattle.run_resumed.proofs.FaultLaws.{are_opened, are_right, each_opened, numbered_asked, opened_by, right_fails}
 use Rattle.run_resumed.proofs.TiedLaws.{opened_unused}
 use Rattle.run_resumed.proofs.ready.ready_run.Goals as goal
 
