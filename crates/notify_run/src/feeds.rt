@@ -223,7 +223,7 @@ fn status_of_resumed<T: Threads + Wait + Clock + Sync>(
 
 /// Says on standard error what a run that goes on failed with, if it did and that wasn't said, and gives its exit status.
 fn status_of_outcome<R: Eprint>(rt: &R, outcome: Result<Resumed, ResumeFault<'_>>) -> ExitCode
-    ensures { IfErr outcome (λ fault. exit_status result ≡ resume_status fault.entry) }
+    ensures { IfErr outcome.entry (λ fault. exit_status result ≡ resume_status fault) }
 {
     match outcome {
         Ok(done) => status_of_run(rt, Ok(done.ending)),
