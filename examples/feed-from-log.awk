@@ -1,4 +1,4 @@
-# Makes a feed of a Nagios log: hard states, downtimes, flapping, acknowledgements, the switches of notifications, and a clock
+# Makes a feed of a Nagios log: hard states, downtimes, flapping, acknowledgements and their removal, the switches of notifications, and a clock
 # line for each minute between them.
 #
 #     awk -f examples/feed-from-log.awk examples/nagios.log
@@ -42,6 +42,13 @@ match($0, /^\[[0-9]+\] /) {
             about = what == "HOST" ? field[2] : field[2] ";" field[3]
             clock(now)
             tell("ACK", field[what == "HOST" ? 3 : 4] == 2 ? "STICKY" : "NORMAL")
+        }
+        if (field[1] ~ /^(REMOVE_(HOST|SVC)_ACKNOWLEDGEMENT|(ENABLE|DISABLE)_(HOST|SVC)_NOTIFICATIONS)$/) {
+            what = field[1] ~ /_HOST_/ ? "HOST" : "SERVICE"
+            about = what == "HOST" ? field[2] : field[2] ";" field[3]
+            clock(now)
+            if (field[1] ~ /^REMOVE/) tell("ACK", "NONE")
+            else tell("NOTIFICATIONS", field[1] ~ /^ENABLE/ ? "ON" : "OFF")
         }
         next
     }

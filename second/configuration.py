@@ -287,10 +287,12 @@ class Checked(Names):
 
 
 class Configuration(Checked):
-    """Objects, contacts, lanes, periods, escalations and dependencies, each by its number. Limits aren't looked at."""
+    """Objects, contacts, lanes, periods, escalations and dependencies, each by its number. Limits aren't looked at. The choices are the
+    fields in which the daemon's rule decides."""
 
-    def __init__(self, blocks):
+    def __init__(self, blocks, choices=()):
         super().__init__(blocks)
+        self.choices = frozenset(choices)
         self.period_numbers = {self.name(place): number for number, place in enumerate(self.of("timeperiod"))}
         self.periods = [self.period_of(place) for place in self.of("timeperiod")]
         self.lanes = self.lanes_used()
@@ -322,9 +324,9 @@ class Configuration(Checked):
         value = self.value(place, name)
         return default if value is None else number_in(value)
 
-    def options(self, place, name, kind, of_escalation=False):
+    def options(self, place, name, kind, of_escalation=False, unlisted=ALL_LETTERS):
         value = self.value(place, name)
-        return ALL_LETTERS if value is None else options_in(value, kind, of_escalation)
+        return unlisted if value is None else options_in(value, kind, of_escalation)
 
     def period(self, place, name, default=None):
         """The number of a period; none is always."""
@@ -346,7 +348,9 @@ class Configuration(Checked):
 
     def rights(self, place, kind):
         lanes = sorted(self.lanes.index(name) for name in self.commands(place, kind))
-        return Rights(self.number(place, f"{kind}_notifications_enabled", 1) != 0, self.options(place, f"{kind}_notification_options", kind),
+        unlisted = frozenset() if "contact_none" in self.choices else ALL_LETTERS
+        return Rights(self.number(place, f"{kind}_notifications_enabled", 1) != 0,
+                      self.options(place, f"{kind}_notification_options", kind, unlisted=unlisted),
                       self.period(place, f"{kind}_notification_period"), lanes)
 
     def add_object(self, place, host):

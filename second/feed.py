@@ -4,7 +4,8 @@ import re
 WORDS = {"HOST_STATE": ("UP", "DOWN", "UNREACHABLE"), "SERVICE_STATE": ("OK", "WARNING", "UNKNOWN", "CRITICAL")}
 WORDS |= {f"{of}_DOWNTIME": ("START", "END", "CANCELLED") for of in ("HOST", "SERVICE")}
 WORDS |= {f"{of}_FLAPPING": ("START", "STOP") for of in ("HOST", "SERVICE")}
-WORDS |= {f"{of}_ACK": ("STICKY", "NORMAL") for of in ("HOST", "SERVICE")}
+WORDS |= {f"{of}_ACK": ("STICKY", "NORMAL", "NONE") for of in ("HOST", "SERVICE")}
+WORDS |= {f"{of}_NOTIFICATIONS": ("ON", "OFF") for of in ("HOST", "SERVICE")}
 PLAIN = ("CLOCK", "ENABLE_NOTIFICATIONS", "DISABLE_NOTIFICATIONS")
 LAST_MOMENT, MOST_OF_A_LINE = 32_503_679_999, 4_096
 

@@ -54,6 +54,9 @@ const OPEN: View = View {
         moment: 100,
         gap: 60,
     }),
+    renews: false,
+    told: OptionLetters::NONE,
+    host_problem: false,
 };
 
 const ALL: [Kind; 7] = [
@@ -283,7 +286,7 @@ fn gives(rt: &impl Abort, periods: &[Compiled], case: Case) {
         periods,
     };
     assert!(rt; attempt.moment <= LAST_MOMENT && is_within_limits(case.view));
-    let found = object_verdict(case.view, &attempt).err();
+    let found = object_verdict(false, case.view, &attempt).err();
     assert_eq!(rt;
         found,
         case.found,
@@ -379,7 +382,7 @@ fn contact_gives(
             zone: &zone,
             periods,
         };
-        let found = contact_verdict(config, ContactId(place as u16), &attempt).err();
+        let found = contact_verdict(config, ContactId(place as u16), &attempt, None).err();
         let wanted = if *kind == Kind::Problem {
             held.problem
         } else {

@@ -1,5 +1,6 @@
 -- What a fault of object text says of the bytes that were read.
 use Rattle.std.proofs.Common.{◌≡◌, ℕ, Bool, List, Option, ◌⊎◌, None, Some, IfSome, inl, inr, sym, subst}
+use Rattle.due_model.specs.declared.config.Choices.{Choices}
 use Rattle.due_model.specs.declared.config.Config.{Config}
 use Rattle.object_faults.specs.declared.load_fault.LoadFault.{LoadFault}
 use Rattle.object_faults.specs.declared.load_fault.LoadFault.TheVariants as load
@@ -22,7 +23,7 @@ load_fault can_fail mark load.NoMemory text known after (inr is) k = tt
 load_fault can_fail mark fault text known after (inr is) k = text_fault mark fault text known after is k
 
 -- a text that is all of an input
-pub file_of : (config : Config) (known after : Option (List ℕ)) → GivesText None config known after → IsFileOf config known
-file_of config None after gives = tt
-file_of config (Some text) None gives = absurd gives
-file_of config (Some text) (Some rest) gives = gives.0
+pub file_of : (choices : Choices) (config : Config) (known after : Option (List ℕ)) → GivesText None choices config known after → IsFileOf choices config known
+file_of choices config None after gives = tt
+file_of choices config (Some text) None gives = absurd gives
+file_of choices config (Some text) (Some rest) gives = gives.0

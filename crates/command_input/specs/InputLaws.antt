@@ -2,14 +2,14 @@
 use Rattle.std.proofs.Common.{◌≡◌, ℕ, Bool, List, [], Option, None, Some, Result, Ok, Err, IfErr, IfSome, OnErr, inl, inr, ap, subst, ◌∙◌}
 use Rattle.std.proofs.lemmas.Iterator.Adapters.{option_map_id}
 use Rattle.due_model.specs.declared.config.Config.{Config}
-use Rattle.object_resolve.specs.Text.{IsTextOf}
+use Rattle.due_model.specs.declared.config.Choices.{Choices}
 use Rattle.text_lines.specs.LineReader.{Reading, to_come}
 use Rattle.text_lines.specs.Text.{text_before}
 use Rattle.written.specs.WrittenLaws.{keeps_same}
 use Rattle.command_output.specs.declared.outcome.CommandFault.{CommandFault}
 use Rattle.command_output.specs.declared.outcome.CommandFault.TheVariants.{Objects, Unreadable, Output, NoMemory}
 use Rattle.command_output.specs.Outcome.{IsWriteFault}
-use Rattle.command_input.specs.Objects.{CommandFails, GivesObjects, ObjectsFail, TextFails, feed_in, objects_in, objects_mark}
+use Rattle.command_input.specs.Objects.{CommandFails, GivesObjects, IsTextBy, ObjectsFail, TextFails, feed_in, objects_in, objects_mark}
 
 -- ---- bytes that are known
 
@@ -35,24 +35,24 @@ of_input known start P begins h =
     subst P (ap (λ (r : Reading). to_come r) begins ∙ option_map_id known) h
 
 -- the text of known bytes, and the feed that is left
-text_and_feed : (config : Config) (bytes : List ℕ) (rest : Option (List ℕ))
-    → GivesObjects config (Some bytes) rest
-    → IsTextOf config (objects_in bytes) × (rest ≡ Some (feed_in bytes))
-text_and_feed config bytes None gives = absurd gives
-text_and_feed config bytes (Some rest) gives =
+text_and_feed : (choices : Choices) (config : Config) (bytes : List ℕ) (rest : Option (List ℕ))
+    → GivesObjects choices config (Some bytes) rest
+    → IsTextBy choices config (objects_in bytes) × (rest ≡ Some (feed_in bytes))
+text_and_feed choices config bytes None gives = absurd gives
+text_and_feed choices config bytes (Some rest) gives =
     (gives.0, ap (λ (feed : List ℕ). Some feed) gives.1)
 
 module _ (known : Option (List ℕ)) (start : Reading)
     (begins : start ≡ record { line = []; held = []; unread = known; calls = 0 }) where
   -- the object text of an input was accepted, and its feed is left
-  pub input_read : (config : Config) (rest : Option (List ℕ)) (Q : List ℕ → Type 0)
-      → GivesObjects config (to_come start) rest
-      → ((bytes : List ℕ) → IsTextOf config (objects_in bytes) → rest ≡ Some (feed_in bytes)
+  pub input_read : (choices : Choices) (config : Config) (rest : Option (List ℕ)) (Q : List ℕ → Type 0)
+      → GivesObjects choices config (to_come start) rest
+      → ((bytes : List ℕ) → IsTextBy choices config (objects_in bytes) → rest ≡ Some (feed_in bytes)
       → Q bytes) → IfSome known Q
-  input_read config rest Q gives each =
-      some_known known (λ k. GivesObjects config k rest) Q
-      (of_input known start (λ k. GivesObjects config k rest) begins gives)
-      (λ bytes of. let both = text_and_feed config bytes rest of in each bytes both.0 both.1)
+  input_read choices config rest Q gives each =
+      some_known known (λ k. GivesObjects choices config k rest) Q
+      (of_input known start (λ k. GivesObjects choices config k rest) begins gives)
+      (λ bytes of. let both = text_and_feed choices config bytes rest of in each bytes both.0 both.1)
 
 -- ---- what a fault says
 

@@ -1,6 +1,7 @@
 -- The object text at the head of an input, and the feed after it; and the object text of a file.
 use Rattle.std.specs.Prelude.{◌≡◌, ℕ, Bool, true, List, codes, IfSome, ◌⊎◌, Option, None, Some, ⊤}
 use Rattle.std.specs.Io.KnownBytes.{Keeps}
+use Rattle.due_model.specs.declared.config.Choices.{Choices}
 use Rattle.due_model.specs.declared.config.Config.{Config}
 pub use Rattle.object_resolve.specs.Text.{IsTextFault, IsTextOf}
 use Rattle.text_lines.specs.Lines.{Known}
@@ -8,10 +9,15 @@ use Rattle.text_lines.specs.Text.{rest_after, text_before}
 use Rattle.command_output.specs.declared.outcome.CommandFault.{CommandFault}
 use Rattle.command_output.specs.declared.outcome.CommandFault.TheVariants.{Objects, Unreadable, Output, NoMemory}
 
+-- the text gives this configuration by these choices
+abbrev pub IsTextBy : Choices → Config → List ℕ → Type 0
+IsTextBy choices config text = IsTextOf config text × (config.choices ≡ choices)
+
 -- where the bytes are known, the text before the mark gives this configuration, and what follows it is left to be read
-abbrev pub GivesText : (mark : Option (List ℕ)) → Config → (before after : Option (List ℕ)) → Type 0
-GivesText mark config before after = Known before after
-    (λ bytes rest. IsTextOf config (text_before mark bytes) × (rest ≡ rest_after mark bytes))
+abbrev pub GivesText : (mark : Option (List ℕ)) → Choices → Config → (before after : Option (List ℕ)) → Type 0
+GivesText mark choices config before after = Known before after
+    (λ bytes rest. IsTextBy choices config (text_before mark bytes)
+    × (rest ≡ rest_after mark bytes))
 
 -- what a fault says of that text, where the bytes are known; only a reader that can fail makes it unreadable
 abbrev pub TextFails : (can_fail : Bool) → (mark : Option (List ℕ)) → CommandFault
@@ -35,8 +41,8 @@ objects_in bytes = text_before objects_mark bytes
 abbrev pub feed_in : List ℕ → List ℕ
 feed_in bytes = rest_after objects_mark bytes
 
-abbrev pub GivesObjects : Config → (before after : Option (List ℕ)) → Type 0
-GivesObjects config before after = GivesText objects_mark config before after
+abbrev pub GivesObjects : Choices → Config → (before after : Option (List ℕ)) → Type 0
+GivesObjects choices config before after = GivesText objects_mark choices config before after
 
 abbrev pub ObjectsFail : (can_fail : Bool) → CommandFault → Option (List ℕ) → Type 0
 ObjectsFail can_fail fault known = TextFails can_fail objects_mark fault known
@@ -44,8 +50,8 @@ ObjectsFail can_fail fault known = TextFails can_fail objects_mark fault known
 -- ---- the text of a file of its own
 
 -- where its bytes are known, they give this configuration
-abbrev pub IsFileOf : Config → Option (List ℕ) → Type 0
-IsFileOf config known = IfSome known (λ text. IsTextOf config text)
+abbrev pub IsFileOf : Choices → Config → Option (List ℕ) → Type 0
+IsFileOf choices config known = IfSome known (λ text. IsTextBy choices config text)
 
 -- what a fault says of it
 abbrev pub FileFails : (can_fail : Bool) → CommandFault → Option (List ℕ) → Type 0

@@ -17,7 +17,7 @@ use Rattle.due_model.specs.declared.state.State.{State}
 use Rattle.due_model.specs.declared.zone.Zone.{Zone}
 use Rattle.due_model.specs.Accepted.{DependencyFits, IsAccepted}
 use Rattle.due_model.specs.ByObject.{entries_of}
-use Rattle.due_model.specs.Dependencies.{dependency_fails, entry_fails, has_state}
+use Rattle.due_model.specs.Dependencies.{dependency_fails, entry_fails, fails_at}
 use Rattle.due_model.specs.Periods.{in_period}
 use Rattle.lemmas.proofs.Dependencies.{fails_at_any_depth}
 use Rattle.dependency.specs.Entry.{fails_by, masters_of}
@@ -136,12 +136,12 @@ module _ (c : Config) (zone : Zone) (states : ℕ → State) (t : ℕ) where
       ≡ cond b (f e.master.0 || list_any f (masters_of c zone t es)) (list_any f (masters_of c zone t es))) [ true ↦ refl | false ↦ refl ]
 
   any_parted : (f : ℕ → Bool) (es : List Dependency)
-      → list_any (λ e. in_period c zone e.period t && (has_state e.states (states e.master.0) || e.inherits && f e.master.0)) es
+      → list_any (λ e. in_period c zone e.period t && (fails_at c.choices.dep_pending e.states (states e.master.0) || e.inherits && f e.master.0)) es
       ≡ (list_any (fails_by c zone states t) es || list_any f (masters_of c zone t es))
   any_parted f [] = refl
   any_parted f (e ∷ es) =
-      ap (λ b. in_period c zone e.period t && (has_state e.states (states e.master.0) || e.inherits && f e.master.0) || b) (any_parted f es)
-      ∙ parted (in_period c zone e.period t) (has_state e.states (states e.master.0)) e.inherits (f e.master.0) (list_any (fails_by c zone states t) es) (list_any f (masters_of c zone t es))
+      ap (λ b. in_period c zone e.period t && (fails_at c.choices.dep_pending e.states (states e.master.0) || e.inherits && f e.master.0) || b) (any_parted f es)
+      ∙ parted (in_period c zone e.period t) (fails_at c.choices.dep_pending e.states (states e.master.0)) e.inherits (f e.master.0) (list_any (fails_by c zone states t) es) (list_any f (masters_of c zone t es))
       ∙ ap (λ b. fails_by c zone states t e || list_any (fails_by c zone states t) es || b) (sym (masters-cons f e es))
 
   abbrev own : ℕ → List Dependency
@@ -150,7 +150,7 @@ module _ (c : Config) (zone : Zone) (states : ℕ → State) (t : ℕ) where
   -- one entry, and then a chain that is one shorter
   fails-step : (depth p : ℕ) → fails_at (suc depth) p ≡ (list_any (fails_by c zone states t) (own p) || list_any (fails_at depth) (masters_of c zone t (own p)))
   fails-step depth p =
-      any_of_filter (λ (e : Dependency). e.dependent.0 == p) (λ e. in_period c zone e.period t) (λ e. has_state e.states (states e.master.0) || e.inherits && fails_at depth e.master.0) c.dependencies
+      any_of_filter (λ (e : Dependency). e.dependent.0 == p) (λ e. in_period c zone e.period t) (λ e. fails_at c.choices.dep_pending e.states (states e.master.0) || e.inherits && fails_at depth e.master.0) c.dependencies
       ∙ any_parted (fails_at depth) (entries_of c.dependencies p)
 
   Fails-one : (p : ℕ) → list_any (fails_by c zone states t) (own p) ≡ true → Fails c zone states t p

@@ -23,6 +23,7 @@ use Rattle.due_model.specs.declared.state.State.{State}
 use Rattle.due_model.specs.declared.state.State.TheVariants as state
 use Rattle.due_model.specs.declared.state.StateSet.{StateSet}
 use Rattle.due_model.specs.declared.zone.Zone.TheVariants.{Utc}
+use Rattle.due_model.specs.Choices.{own}
 use Rattle.due_model.specs.Due.{due, sup}
 use Rattle.due_model.specs.Options.{every_letter}
 use Rattle.due_model.specs.Periods.{in_period, next_in}
@@ -50,6 +51,7 @@ web = record {
   period = None;
   interval = 1;
   delay = 0;
+  volatile = false;
   contacts = record { 0 = 0 } ∷ [];
 }
 
@@ -60,6 +62,7 @@ service name = record web { name = name; host = Some (record { 0 = 0 }) }
 -- the host web, the contact ann, the command mail
 abbrev pub base : Config
 base = record {
+  choices = own;
   objects = web ∷ [];
   contacts = by_mail (codes "ann") ∷ [];
   lanes = record { name = codes "mail" } ∷ [];
@@ -292,6 +295,32 @@ AcknowledgedUp = Gives base 0
     ∷ at 1060 (has 0 state.Down) ∷ [])
     ((3, 1030, kind.Problem, state.Down, 1, 0) ∷ (5, 1050, kind.Recovery, state.Up, 2, 0)
     ∷ (6, 1060, kind.Problem, state.Down, 1, 0) ∷ [])
+    []
+
+-- an acknowledgement that is taken back holds nothing back any more, and the clock attempts the problem again
+abbrev pub TakenBack : Type 0
+TakenBack = Gives base 0
+    (at 1000 (has 0 state.Down) ∷ at 1010 (event.Ack (record { 0 = 0 }) true)
+    ∷ at 1060 event.Clock ∷ at 1070 (event.AckRemoved (record { 0 = 0 })) ∷ at 1080 event.Clock ∷ [])
+    ((0, 1000, kind.Problem, state.Down, 1, 0) ∷ (4, 1080, kind.Problem, state.Down, 2, 0) ∷ [])
+    ((2, 1060, kind.Problem, state.Down, filter.Acknowledged) ∷ [])
+
+-- an object's own switch, whatever the object text says
+abbrev pub SwitchedOff : Type 0
+SwitchedOff = Gives base 0
+    (at 1000 (event.OwnSwitch (record { 0 = 0 }) false) ∷ at 1010 (has 0 state.Down)
+    ∷ at 1020 (event.OwnSwitch (record { 0 = 0 }) true) ∷ at 1070 event.Clock ∷ [])
+    ((3, 1070, kind.Problem, state.Down, 1, 0) ∷ [])
+    ((1, 1010, kind.Problem, state.Down, filter.Disabled) ∷ [])
+
+-- a volatile service of interval 0 is notified of at each hard problem state, and not again by the clock
+abbrev pub VolatileService : Type 0
+VolatileService = Gives
+    (record base { objects = web ∷ record (service (codes "http")) { interval = 0; volatile = true } ∷ [] }) 1
+    (at 1000 (has 1 state.Critical) ∷ at 1001 (has 1 state.Critical) ∷ at 9000 event.Clock
+    ∷ at 9001 (has 1 state.Fine) ∷ [])
+    ((0, 1000, kind.Problem, state.Critical, 1, 0) ∷ (1, 1001, kind.Problem, state.Critical, 2, 0)
+    ∷ (3, 9001, kind.Recovery, state.Fine, 3, 0) ∷ [])
     []
 
 -- objects 1, 2 and 3 are the services A, C and B of web: A depends on B, and B on C

@@ -66,6 +66,8 @@ attempted o (event.Downtime p change) old ready t =
 attempted o (event.Flapping p starts) old ready t =
     if p.0 == o then attempted_by_flapping old.flapping starts else None
 attempted o (event.Ack p sticky) old ready t = None
+attempted o (event.AckRemoved p) old ready t = None
+attempted o (event.OwnSwitch p on) old ready t = None
 
 -- the letter of a state (chapter "Object Definitions", `notification_options`)
 abbrev pub state_letter : State → OptionLetter
@@ -98,6 +100,42 @@ has_letter set letter.Critical = set.critical
 has_letter set letter.Recovery = set.recovery
 has_letter set letter.Flapping = set.flapping
 has_letter set letter.Downtime = set.downtime
+
+-- the set of no letter
+abbrev pub no_letter : OptionLetters
+no_letter = record {
+  down = false;
+  unreachable = false;
+  warning = false;
+  unknown = false;
+  critical = false;
+  recovery = false;
+  flapping = false;
+  downtime = false;
+}
+
+-- a set with a letter
+abbrev pub with_letter : OptionLetter → OptionLetters → OptionLetters
+with_letter letter.Down set = record set { down = true }
+with_letter letter.Unreachable set = record set { unreachable = true }
+with_letter letter.Warning set = record set { warning = true }
+with_letter letter.Unknown set = record set { unknown = true }
+with_letter letter.Critical set = record set { critical = true }
+with_letter letter.Recovery set = record set { recovery = true }
+with_letter letter.Flapping set = record set { flapping = true }
+with_letter letter.Downtime set = record set { downtime = true }
+
+-- whether two sets have a letter in common
+abbrev pub meets : OptionLetters → OptionLetters → Bool
+meets a b =
+    a.down && b.down || a.unreachable && b.unreachable || a.warning && b.warning
+    || a.unknown && b.unknown || a.critical && b.critical || a.recovery && b.recovery
+    || a.flapping && b.flapping || a.downtime && b.downtime
+
+-- whether none of these letters is told to who has those options; where there is none, everybody is told
+abbrev pub is_untold : Option OptionLetters → OptionLetters → Bool
+is_untold None options = false
+is_untold (Some told) options = not (meets told options)
 
 -- a number for each state
 abbrev pub state_number : State → ℕ
@@ -161,10 +199,10 @@ abbrev pub first_failing : List (Bool × Filter) → Option Filter
 first_failing [] = None
 first_failing (test ∷ tests) = if test.0 then Some test.1 else first_failing tests
 
--- The first of an object's filters that fails, in their order (chapter "Notifications", "What Filters Must
--- Be Passed In Order For Notifications To Be Sent?").
-abbrev pub failing : Config → Zone → View → Attempt → Option Filter
-failing c zone v a = first_failing (
+-- an object's filters in their order, each with the test that it fails (chapter "Notifications", "What Filters Must
+-- Be Passed In Order For Notifications To Be Sent?")
+abbrev pub in_own_order : Config → Zone → View → Attempt → List (Bool × Filter)
+in_own_order c zone v a =
     (not v.program, filter.Program)
     ∷ (not v.enabled, filter.Disabled)
     ∷ (not (is_of_downtime a.kind) && v.down, filter.Downtime)
@@ -179,13 +217,74 @@ failing c zone v a = first_failing (
           && nat_lt a.moment (v.began + 60 * v.delay),
       filter.FirstDelay,
     )
-    ∷ (is_problem a.kind && is_too_soon v.last a.state a.moment, filter.Interval)
-    ∷ [])
+    ∷ (
+      is_problem a.kind && not v.renews && is_too_soon v.last a.state a.moment,
+      filter.Interval,
+    )
+    ∷ (is_of_problem a.kind && v.host_problem, filter.HostDown)
+    ∷ []
 
--- The first of a contact's filters that fails, in their order (the same chapter).
-abbrev pub contact_failing : Config → Zone → Rights → Attempt → Option Filter
-contact_failing c zone rights a = first_failing (
+-- the same in the order in which the daemon asks them
+abbrev pub in_daemons_order : Config → Zone → View → Attempt → List (Bool × Filter)
+in_daemons_order c zone v a =
+    (not v.program, filter.Program)
+    ∷ (not (in_period c zone v.period a.moment), filter.Period)
+    ∷ (not v.enabled, filter.Disabled)
+    ∷ (is_problem a.kind && v.acknowledged, filter.Acknowledged)
+    ∷ (is_of_problem a.kind && v.depends, filter.Dependency)
+    ∷ (not (has_letter v.options (letter_of a.kind a.state)), filter.Options)
+    ∷ (is_recovery a.kind && v.sent == 0, filter.NoProblem)
+    ∷ (
+      is_problem a.kind && v.sent == 0
+          && nat_lt a.moment (v.began + 60 * v.delay),
+      filter.FirstDelay,
+    )
+    ∷ (is_of_problem a.kind && v.flapping, filter.Flapping)
+    ∷ (not (is_of_downtime a.kind) && v.down, filter.Downtime)
+    ∷ (
+      is_problem a.kind && not v.renews && is_too_soon v.last a.state a.moment,
+      filter.Interval,
+    )
+    ∷ (is_of_problem a.kind && v.host_problem, filter.HostDown)
+    ∷ []
+
+-- the first of an object's filters that fails, in the daemon's order or in this one
+abbrev pub failing_by : (daemons : Bool) → Config → Zone → View → Attempt → Option Filter
+failing_by daemons c zone v a =
+    if daemons then first_failing (in_daemons_order c zone v a)
+    else first_failing (in_own_order c zone v a)
+
+-- the first of an object's filters that fails, by the order that is chosen
+abbrev pub failing : Config → Zone → View → Attempt → Option Filter
+failing c zone v a = failing_by c.choices.order c zone v a
+
+-- a contact's filters in their order (the same chapter)
+abbrev pub in_own_contact_order : Config → Zone → Rights → Attempt → (told : Option OptionLetters)
+    → List (Bool × Filter)
+in_own_contact_order c zone rights a told =
     (not rights.enabled, filter.ContactDisabled)
     ∷ (not (has_letter rights.options (letter_of a.kind a.state)), filter.ContactOptions)
     ∷ (not (in_period c zone rights.period a.moment), filter.ContactPeriod)
-    ∷ [])
+    ∷ (is_untold told rights.options, filter.ContactNotTold)
+    ∷ []
+
+-- and in the daemon's
+abbrev pub in_daemons_contact_order : Config → Zone → Rights → Attempt
+    → (told : Option OptionLetters) → List (Bool × Filter)
+in_daemons_contact_order c zone rights a told =
+    (not rights.enabled, filter.ContactDisabled)
+    ∷ (not (in_period c zone rights.period a.moment), filter.ContactPeriod)
+    ∷ (not (has_letter rights.options (letter_of a.kind a.state)), filter.ContactOptions)
+    ∷ (is_untold told rights.options, filter.ContactNotTold)
+    ∷ []
+
+abbrev pub contact_failing_by : (daemons : Bool) → Config → Zone → Rights → Attempt
+    → (told : Option OptionLetters) → Option Filter
+contact_failing_by daemons c zone rights a told =
+    if daemons then first_failing (in_daemons_contact_order c zone rights a told)
+    else first_failing (in_own_contact_order c zone rights a told)
+
+-- the first of a contact's filters that fails, by the order that is chosen
+abbrev pub contact_failing : Config → Zone → Rights → Attempt → (told : Option OptionLetters)
+    → Option Filter
+contact_failing c zone rights a told = contact_failing_by c.choices.order c zone rights a told

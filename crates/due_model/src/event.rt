@@ -27,6 +27,10 @@ pub enum EventKind {
     /// Somebody acknowledges the problem of an object (chapter "External Commands"): until it recovers
     /// (`true`, sticky), or until its state changes.
     Ack(ObjectId, bool),
+    /// Somebody takes the acknowledgement of an object's problem back (chapter "External Commands").
+    AckRemoved(ObjectId),
+    /// The notifications of one object are switched on or off (chapter "External Commands").
+    OwnSwitch(ObjectId, bool),
 }
 
 /// What happens to a scheduled downtime.

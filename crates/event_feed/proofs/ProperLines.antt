@@ -16,7 +16,7 @@ use Rattle.due_model.specs.declared.config.ObjectId.{ObjectId}
 use Rattle.due_model.specs.declared.event.DowntimeChange.TheVariants.{Start, End, Cancelled}
 use Rattle.due_model.specs.declared.event.Event.{Event}
 use Rattle.due_model.specs.declared.event.EventKind.{EventKind}
-use Rattle.due_model.specs.declared.event.EventKind.TheVariants.{Clock, Program, Hard, Downtime, Flapping, Ack}
+use Rattle.due_model.specs.declared.event.EventKind.TheVariants.{Clock, Program, Hard, Downtime, Flapping, Ack, AckRemoved, OwnSwitch}
 use Rattle.due_model.specs.declared.state.State.{State}
 use Rattle.due_model.specs.declared.state.State.TheVariants.{Up, Down, Unreachable, Fine, Warning, Unknown, Critical}
 use Rattle.text_lines.specs.LineReader.{line_limit}
@@ -27,9 +27,9 @@ use Rattle.event_feed.specs.declared.line.Command.TheVariants.{TellTime, Switch,
 use Rattle.event_feed.specs.declared.line.Subject.{Subject}
 use Rattle.event_feed.specs.declared.line.Subject.TheVariants.{Host, Service}
 use Rattle.event_feed.specs.declared.line.Words.{Words}
-use Rattle.event_feed.specs.declared.line.Words.TheVariants.{States, Downtimes, Flaps, Acks}
+use Rattle.event_feed.specs.declared.line.Words.TheVariants.{States, Downtimes, Flaps, Acks, Switches}
 use Rattle.event_feed.specs.Fault.{is_line_fault}
-use Rattle.event_feed.specs.Line.{stamp_of, digits_number, stamp_digits, is_stamp_shaped, command_of, fields, command_named, host_state_said, service_state_said, downtime_said, flapping_said, ack_said, said, said_reading, last_reading, object_reading, bare_reading, arguments_reading, command_reading, stamped, stamp_reading, line_reading}
+use Rattle.event_feed.specs.Line.{stamp_of, digits_number, stamp_digits, is_stamp_shaped, command_of, fields, command_named, host_state_said, service_state_said, downtime_said, flapping_said, ack_said, own_switch_said, said, said_reading, last_reading, object_reading, bare_reading, arguments_reading, command_reading, stamped, stamp_reading, line_reading}
 
 -- ---- the object
 
@@ -113,7 +113,13 @@ flapping-proper c id word there =
 ack-proper : (c : Config) (id : ObjectId) (word : List ℕ) → id.0 < length c.objects → SaysProper c (ack_said id word)
 ack-proper c id word there =
     or_else c (bytes_eq word (codes "STICKY")) (Ack id true) _ there
-    (or_else c (bytes_eq word (codes "NORMAL")) (Ack id false) None there tt)
+    (or_else c (bytes_eq word (codes "NORMAL")) (Ack id false) _ there
+    (or_else c (bytes_eq word (codes "NONE")) (AckRemoved id) None there tt))
+
+own_switch-proper : (c : Config) (id : ObjectId) (word : List ℕ) → id.0 < length c.objects → SaysProper c (own_switch_said id word)
+own_switch-proper c id word there =
+    or_else c (bytes_eq word (codes "ON")) (OwnSwitch id true) _ there
+    (or_else c (bytes_eq word (codes "OFF")) (OwnSwitch id false) None there tt)
 
 -- whether such objects are services
 abbrev is_service : Subject → Bool
@@ -126,6 +132,7 @@ said-proper c States Service id word at = service_state-proper c id word at
 said-proper c Downtimes subject id word at = downtime-proper c id word (slice_get_within c.objects id.0 at.object at.at)
 said-proper c Flaps subject id word at = flapping-proper c id word (slice_get_within c.objects id.0 at.object at.at)
 said-proper c Acks subject id word at = ack-proper c id word (slice_get_within c.objects id.0 at.object at.at)
+said-proper c Switches subject id word at = own_switch-proper c id word (slice_get_within c.objects id.0 at.object at.at)
 
 -- ---- the command and the line
 

@@ -15,13 +15,13 @@ use Rattle.due_model.specs.declared.config.Object.{Object}
 use Rattle.due_model.specs.declared.config.ObjectId.{ObjectId}
 use Rattle.due_model.specs.declared.event.DowntimeChange.TheVariants.{Start, End, Cancelled}
 use Rattle.due_model.specs.declared.event.EventKind.{EventKind}
-use Rattle.due_model.specs.declared.event.EventKind.TheVariants.{Hard, Downtime, Flapping, Ack}
+use Rattle.due_model.specs.declared.event.EventKind.TheVariants.{Hard, Downtime, Flapping, Ack, AckRemoved, OwnSwitch}
 use Rattle.due_model.specs.declared.state.State.TheVariants.{Up, Down, Unreachable, Fine, Warning, Unknown, Critical}
 use Rattle.event_feed.specs.declared.fault.FeedFault.TheVariants.{BadState}
 use Rattle.event_feed.specs.declared.line.Subject.{Subject}
 use Rattle.event_feed.specs.declared.line.Subject.TheVariants.{Host, Service}
 use Rattle.event_feed.specs.declared.line.Words.{Words}
-use Rattle.event_feed.specs.declared.line.Words.TheVariants.{States, Downtimes, Flaps, Acks}
+use Rattle.event_feed.specs.declared.line.Words.TheVariants.{States, Downtimes, Flaps, Acks, Switches}
 use Rattle.event_feed.specs.Line.{fields, fields_after, said, said_reading, last_reading, unknown_fault}
 use Rattle.event_feed.proofs.Parts.{slice_split-whole, last_reading-many}
 
@@ -63,7 +63,11 @@ said-field Flaps subject id word =
     (or_word word (codes "STOP") (Flapping id false) None refl tt)
 said-field Acks subject id word =
     or_word word (codes "STICKY") (Ack id true) _ refl
-    (or_word word (codes "NORMAL") (Ack id false) None refl tt)
+    (or_word word (codes "NORMAL") (Ack id false) _ refl
+    (or_word word (codes "NONE") (AckRemoved id) None refl tt))
+said-field Switches subject id word =
+    or_word word (codes "ON") (OwnSwitch id true) _ refl
+    (or_word word (codes "OFF") (OwnSwitch id false) None refl tt)
 
 no_word : (word first more : List ℕ) (kind : Option EventKind) → OneField word kind → fields word ≡ first ∷ fields more → kind ≡ None
 no_word word first more None one many = refl

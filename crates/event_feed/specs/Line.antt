@@ -12,7 +12,7 @@ use Rattle.due_model.specs.declared.config.ObjectId.{ObjectId}
 use Rattle.due_model.specs.declared.event.DowntimeChange.TheVariants.{Start, End, Cancelled}
 use Rattle.due_model.specs.declared.event.Event.{Event}
 use Rattle.due_model.specs.declared.event.EventKind.{EventKind}
-use Rattle.due_model.specs.declared.event.EventKind.TheVariants.{Clock, Program, Hard, Downtime, Flapping, Ack}
+use Rattle.due_model.specs.declared.event.EventKind.TheVariants.{Clock, Program, Hard, Downtime, Flapping, Ack, AckRemoved, OwnSwitch}
 use Rattle.due_model.specs.declared.state.State.TheVariants.{Up, Down, Unreachable, Fine, Warning, Unknown, Critical}
 use Rattle.text_lines.specs.LineReader.{line_limit}
 use Rattle.event_feed.specs.declared.fault.FeedFault.{FeedFault}
@@ -22,7 +22,7 @@ use Rattle.event_feed.specs.declared.line.Command.TheVariants.{TellTime, Switch,
 use Rattle.event_feed.specs.declared.line.Subject.{Subject}
 use Rattle.event_feed.specs.declared.line.Subject.TheVariants.{Host, Service}
 use Rattle.event_feed.specs.declared.line.Words.{Words}
-use Rattle.event_feed.specs.declared.line.Words.TheVariants.{States, Downtimes, Flaps, Acks}
+use Rattle.event_feed.specs.declared.line.Words.TheVariants.{States, Downtimes, Flaps, Acks, Switches}
 
 abbrev pub begins_with : List ℕ → List ℕ → Bool
 begins_with bytes front = bytes_eq (take (length front) bytes) front
@@ -80,6 +80,8 @@ command_named name =
     else if bytes_eq name (codes "SERVICE_FLAPPING") then Some (Tell Flaps Service)
     else if bytes_eq name (codes "HOST_ACK") then Some (Tell Acks Host)
     else if bytes_eq name (codes "SERVICE_ACK") then Some (Tell Acks Service)
+    else if bytes_eq name (codes "HOST_NOTIFICATIONS") then Some (Tell Switches Host)
+    else if bytes_eq name (codes "SERVICE_NOTIFICATIONS") then Some (Tell Switches Service)
     else None
 
 -- ---- the words
@@ -116,11 +118,19 @@ flapping_said object word =
     else if bytes_eq word (codes "STOP") then Some (Flapping object false)
     else None
 
--- that the problem is acknowledged, and how long that lasts (chapter "External Commands")
+-- that the problem is acknowledged, and how long that lasts, or isn't any more (chapter "External Commands")
 abbrev pub ack_said : ObjectId → List ℕ → Option EventKind
 ack_said object word =
     if bytes_eq word (codes "STICKY") then Some (Ack object true)
     else if bytes_eq word (codes "NORMAL") then Some (Ack object false)
+    else if bytes_eq word (codes "NONE") then Some (AckRemoved object)
+    else None
+
+-- that the object's notifications are switched on or off (chapter "External Commands")
+abbrev pub own_switch_said : ObjectId → List ℕ → Option EventKind
+own_switch_said object word =
+    if bytes_eq word (codes "ON") then Some (OwnSwitch object true)
+    else if bytes_eq word (codes "OFF") then Some (OwnSwitch object false)
     else None
 
 -- what a word says of such an object
@@ -130,6 +140,7 @@ said States Service object word = service_state_said object word
 said Downtimes subject object word = downtime_said object word
 said Flaps subject object word = flapping_said object word
 said Acks subject object word = ack_said object word
+said Switches subject object word = own_switch_said object word
 
 -- ---- the arguments
 

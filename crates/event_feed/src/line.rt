@@ -14,7 +14,8 @@ ghost use Rattle.event_feed.specs.Line.{ack_said, bare_reading, command_named, c
 ghost use Rattle.event_feed.specs.Line.{command_reading, digits_number};
 ghost use Rattle.event_feed.specs.Line.{downtime_said, fields, fields_after, flapping_said};
 ghost use Rattle.event_feed.specs.Line.{host_state_said};
-ghost use Rattle.event_feed.specs.Line.{last_reading, line_reading, object_reading, said};
+ghost use Rattle.event_feed.specs.Line.{last_reading, line_reading, object_reading};
+ghost use Rattle.event_feed.specs.Line.{own_switch_said, said};
 ghost use Rattle.event_feed.specs.Line.{service_reading, service_state_said, stamp_of};
 ghost use Rattle.event_feed.specs.Line.{unknown_fault};
 
@@ -46,8 +47,11 @@ pub(crate) enum Words {
     Downtimes,
     /// Flapping starts or stops (chapter "State Flapping").
     Flaps,
-    /// The problem is acknowledged: until it is over, or until the state changes (chapter "External Commands").
+    /// The problem is acknowledged: until it is over, or until the state changes; or it isn't any more (chapter "External
+    /// Commands").
     Acks,
+    /// The object's notifications are switched on or off (chapter "External Commands").
+    Switches,
 }
 
 /// What the arguments of a command name.
@@ -270,6 +274,10 @@ fn find_command(name: &[u8]) -> Option<Command>
         Some(Command::Tell(Words::Acks, Subject::Host))
     } else if is_word(name, b"SERVICE_ACK") {
         Some(Command::Tell(Words::Acks, Subject::Service))
+    } else if is_word(name, b"HOST_NOTIFICATIONS") {
+        Some(Command::Tell(Words::Switches, Subject::Host))
+    } else if is_word(name, b"SERVICE_NOTIFICATIONS") {
+        Some(Command::Tell(Words::Switches, Subject::Service))
     } else {
         None
     }
@@ -368,6 +376,7 @@ fn find_said(words: Words, subject: Subject, object: ObjectId, word: &[u8]) -> O
         Words::Downtimes => find_downtime(object, word),
         Words::Flaps => find_flapping(object, word),
         Words::Acks => find_ack(object, word),
+        Words::Switches => find_own_switch(object, word),
     }
 }
 
@@ -439,6 +448,21 @@ fn find_ack(object: ObjectId, word: &[u8]) -> Option<EventKind>
         Some(EventKind::Ack(object, true))
     } else if is_word(word, b"NORMAL") {
         Some(EventKind::Ack(object, false))
+    } else if is_word(word, b"NONE") {
+        Some(EventKind::AckRemoved(object))
+    } else {
+        None
+    }
+}
+
+/// What a word says of an object's own switch.
+fn find_own_switch(object: ObjectId, word: &[u8]) -> Option<EventKind>
+    ensures { result ≡ own_switch_said object word.now }
+{
+    if is_word(word, b"ON") {
+        Some(EventKind::OwnSwitch(object, true))
+    } else if is_word(word, b"OFF") {
+        Some(EventKind::OwnSwitch(object, false))
     } else {
         None
     }

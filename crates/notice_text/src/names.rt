@@ -53,8 +53,10 @@ pub fn filter_name(filter: Filter) -> &'static str
         Filter::Acknowledged => "Acknowledged",
         Filter::FirstDelay => "FirstDelay",
         Filter::Interval => "Interval",
+        Filter::HostDown => "HostDown",
         Filter::ContactDisabled => "ContactDisabled",
         Filter::ContactOptions => "ContactOptions",
         Filter::ContactPeriod => "ContactPeriod",
+        Filter::ContactNotTold => "ContactNotTold",
     }
 }

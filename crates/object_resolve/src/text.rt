@@ -13,7 +13,7 @@ ghost use Rattle.object_faults.specs.declared.load_fault.LoadFault.TheVariants.{
 
 use crate::laws::{accept_resolved, resolve_no_refused};
 use crate::resolve::resolve;
-use due_model::config::Config;
+use due_model::config::{Choices, Config};
 use due_model::sequence::Sequence;
 use object_faults::load_fault::LoadFault;
 use object_reader::block::Block;
@@ -33,15 +33,16 @@ fn blocks_of(alloc: Global, text: Vec<u8>) -> Result<Sequence<Block>, ReadFault>
     read(alloc, &text)
 }
 
-/// The configuration that object text gives, or the fault of the text: that of its first line with a fault, and
+/// The configuration that object text gives, by these choices, or the fault of the text: that of its first line with a fault, and
 /// where it is blocks, that of the first block with a fault: first of templates, then of the values of each
 /// block, then of names, of loops of exclusions, of loops of dependencies and of limits, each over all blocks in file
 /// order. Blocks of `hostextinfo` and `serviceextinfo` say nothing of notifications and are passed over. The work and
 /// the memory grow with the bytes, what blocks inherit, and the services, contacts, escalations and dependencies that
 /// they give. The text is dropped as soon as its blocks are read.
-pub fn load(alloc: Global, text: Vec<u8>) -> Result<Config, LoadFault>
-    // What it gives is the text's configuration, which is accepted.
+pub fn load(alloc: Global, choices: Choices, text: Vec<u8>) -> Result<Config, LoadFault>
+    // What it gives is the text's configuration by these choices, which is accepted.
     ensures config { IfOk result (λ config. IsTextOf config text.items) }
+    ensures choices { IfOk result (λ config. config.choices ≡ choices) }
     ensures accepted { IfOk result (λ config. IsAccepted config) }
     // A fault is the text's, or memory ran out.
     ensures fault { IfErr result (λ fault. (fault ≡ NoMemory) ⊎ IsTextFault text.items fault) }
@@ -54,5 +55,5 @@ pub fn load(alloc: Global, text: Vec<u8>) -> Result<Config, LoadFault>
     accept_resolved();
     resolve_no_refused();
     let blocks = blocks_of(alloc, text)?;
-    Ok(resolve(alloc, blocks.as_slice())?)
+    Ok(resolve(alloc, choices, blocks.as_slice())?)
 }

@@ -1,5 +1,5 @@
 -- How the objects are made: what each block gives is found once, and then taken for each of its objects.
-use Rattle.std.specs.Prelude.{◌≡◌, ℕ, true, List, ◌++◌, map, codes, unwrap_or, Option, None, Some, IfSome, slice_get, slice_index_or, if◌then◌else◌}
+use Rattle.std.specs.Prelude.{◌≡◌, ℕ, true, false, List, ◌++◌, map, codes, unwrap_or, Option, None, Some, IfSome, slice_get, slice_index_or, if◌then◌else◌}
 use Rattle.std.specs.List.{AllZip}
 use Rattle.due_model.specs.Objects.{object_id}
 use Rattle.due_model.specs.declared.config.ContactId.{ContactId}
@@ -75,6 +75,7 @@ pub record IsTaken (own host : Own) (object : Object) : Type 0 where
   pub enabled : object.enabled ≡ own.enabled
   pub options : object.options ≡ own.options
   pub delay : object.delay ≡ own.delay
+  pub volatile : object.volatile ≡ false
   pub interval : object.interval ≡ unwrap_or own.interval (unwrap_or host.interval 30)
   pub period : object.period ≡ unwrap_or own.period (unwrap_or host.period None)
   pub contacts : object.contacts ≡ contacts_of own host

@@ -83,6 +83,7 @@ pub(crate) fn object_of<'a>(
         period: period_of(own.period, host.period),
         interval: interval_of(own.interval, host.interval),
         delay: own.delay,
+        volatile: false,
         contacts: contacts_of(alloc, own, host)?,
     })
 }

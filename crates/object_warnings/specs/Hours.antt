@@ -23,6 +23,7 @@ plain period = record period { dated = [] }
 -- the periods without theirs, and nothing else
 abbrev pub weekly : Config → Config
 weekly c = record {
+  choices = c.choices;
   objects = [];
   contacts = [];
   lanes = [];

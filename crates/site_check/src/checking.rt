@@ -15,7 +15,7 @@ use crate::ends::{push_end, push_some, words_of};
 use crate::lines::{line_at, push_line_fault, push_plain_line_fault};
 pub use crate::options::Form;
 use crate::warned_forms::{push_of_blocks, push_of_text};
-use due_model::config::Config;
+use due_model::config::{Choices, Config};
 use faults_told::forms::push_json;
 use faults_told::located::Source;
 use faults_told::telling::Telling;
@@ -274,7 +274,7 @@ pub fn check(alloc: Global, form: Form<'_, '_>, text: Vec<u8>) -> Result<Checked
     ensures all { IfOk result (λ checked. IsChecked form.entry text.items checked.told.items checked.warnings) }
 {
     let kept = Vec::from_slice(alloc, text.as_slice())?;
-    match load(alloc, text) {
+    match load(alloc, Choices::own(), text) {
         Ok(config) => {
             let free = sound(alloc, form, kept.as_slice(), &config)?;
             Ok(free)
