@@ -36,12 +36,13 @@ match($0, /^\[[0-9]+\] /) {
             clock(now)
             print "[" now "] " field[1]
         }
-        # (2 is sticky; the words after it say who is told, and of what)
+        # (2 is sticky; the next word says whether contacts are told)
         if (field[1] == "ACKNOWLEDGE_HOST_PROBLEM" || field[1] == "ACKNOWLEDGE_SVC_PROBLEM") {
             what = field[1] ~ /HOST/ ? "HOST" : "SERVICE"
             about = what == "HOST" ? field[2] : field[2] ";" field[3]
             clock(now)
-            tell("ACK", field[what == "HOST" ? 3 : 4] == 2 ? "STICKY" : "NORMAL")
+            at = what == "HOST" ? 3 : 4
+            tell("ACK", (field[at] == 2 ? "STICKY" : "NORMAL") (field[at + 1] == 1 ? ";NOTIFY" : ""))
         }
         if (field[1] ~ /^(REMOVE_(HOST|SVC)_ACKNOWLEDGEMENT|(ENABLE|DISABLE)_(HOST|SVC)_NOTIFICATIONS)$/) {
             what = field[1] ~ /_HOST_/ ? "HOST" : "SERVICE"

@@ -24,16 +24,21 @@ def event_in(configuration, line):
     name, *arguments = text[stamp.end():].split(";")
     if name not in WORDS and name not in PLAIN:
         return None, "UnknownKind"
-    if len(arguments) != (0 if name in PLAIN else 2 if name.startswith("HOST") else 3):
+    count = 0 if name in PLAIN else 2 if name.startswith("HOST") else 3
+    # Behind the word of an acknowledgement another may stand.
+    told = name.endswith("_ACK") and len(arguments) == count + 1
+    if len(arguments) != count + told:
         return None, "BadState"
     if name in PLAIN:
         return (int(stamp[1]), name), None
-    *names, word = arguments
+    *names, word = arguments[:count]
     number = configuration.find(*names)
     if number is None:
         return None, "UnknownObject"
-    if word not in WORDS[name]:
+    if word not in WORDS[name] or told and (word == "NONE" or arguments[count] != "NOTIFY"):
         return None, "BadState"
+    if told:
+        return (int(stamp[1]), "TOLD_ACK", number, word), None
     return (int(stamp[1]), name.split("_")[1], number, word), None
 
 

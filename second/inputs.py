@@ -267,11 +267,11 @@ class Site:
         if what < 0.87:
             return self.draw.choice(["ENABLE_NOTIFICATIONS", "ENABLE_NOTIFICATIONS", "DISABLE_NOTIFICATIONS"])
         if what < 0.95:
-            return f"{kind}_ACK;{name};{self.draw.choice(['STICKY', 'NORMAL', 'NONE'])}"
+            return f"{kind}_ACK;{name};{self.draw.choice(['STICKY', 'NORMAL', 'NONE', 'STICKY;NOTIFY', 'NORMAL;NOTIFY'])}"
         if what < 0.97:
             return f"{kind}_NOTIFICATIONS;{name};{self.draw.choice(['ON', 'ON', 'OFF'])}"
         return self.draw.choice(["NOPE", "CLOCK;", "HOST_STATE;zz;UP", f"HOST_STATE;{host};OK", f"HOST_STATE;{host}",
-                                 f"SERVICE_STATE;{host};UP", "HOST_STATE;zz;XX", f"HOST_DOWNTIME;{host};STOP", f"HOST_ACK;{host};2", f"HOST_NOTIFICATIONS;{host};NONE"])
+                                 f"SERVICE_STATE;{host};UP", "HOST_STATE;zz;XX", f"HOST_DOWNTIME;{host};STOP", f"HOST_ACK;{host};2", f"HOST_ACK;{host};NONE;NOTIFY", f"HOST_ACK;zz;NORMAL;NOTIFY", f"HOST_STATE;{host};UP;NOTIFY", f"HOST_NOTIFICATIONS;{host};NONE"])
 
     def feed(self, begin):
         """A feed from this moment on; a line of a hundred has no stamp, and a feed of thirty is cut."""

@@ -28,8 +28,7 @@ def is_named(rule, local):
 
 
 def ranges_of(period, local):
-    """The ranges of the local day: of all lines of the first @dataclass
-class that has one for it, or else of the weekday."""
+    """The ranges of the local day: of all lines of the first class that has one for it, or else of the weekday."""
     named = [(rule[0], ranges) for rule, ranges in period.dated if is_named(rule, local)]
     if not named:
         return period.days[(local.tm_wday + 1) % 7]
@@ -37,6 +36,7 @@ class that has one for it, or else of the weekday."""
     return [one for kind, ranges in named if kind == first for one in ranges]
 
 
+@dataclass
 class Status:
     """What is known of an object."""
     state: str = "PENDING"
@@ -117,15 +117,15 @@ class Rules:
     def filter_of(self, number, kind, letter):
         """The first filter that stops the attempt, if one does."""
         it, now = self.configuration.objects[number], self.statuses[number]
-        of_state, of_downtime = kind in ("PROBLEM", "RECOVERY"), kind.startswith("DOWNTIME")
+        of_state, of_ack = kind in ("PROBLEM", "RECOVERY"), kind == "ACKNOWLEDGEMENT"
         same = now.last is not None and now.sent > 0 and now.last[0] == now.state and not now.over
         hosts = "host_dep" in self.choices and it.host is not None
         tests = [
             ("Program", not self.is_on),
             ("Disabled", not (it.enabled if now.switched is None else now.switched)),
-            ("Downtime", not of_downtime and self.is_down(number)),
+            ("Downtime", not (of_ack or kind.startswith("DOWNTIME")) and self.is_down(number)),
             ("Flapping", of_state and now.flapping),
-            ("Options", letter not in it.options),
+            ("Options", not of_ack and letter not in it.options),
             ("NoProblem", kind == "RECOVERY" and now.sent == 0),
             ("Period", not self.holds(it.period, self.moment)),
             ("Dependency", of_state and (self.depends(number) or hosts and self.depends(it.host))),
@@ -163,7 +163,7 @@ class Rules:
 
     def attempt(self, number, kind):
         it, now = self.configuration.objects[number], self.statuses[number]
-        letter = LETTERS[now.state] if kind == "PROBLEM" else "r" if kind == "RECOVERY" else "f" if kind.startswith("FLAPPING") else "s"
+        letter = LETTERS[now.state] if kind in ("PROBLEM", "ACKNOWLEDGEMENT") else "r" if kind == "RECOVERY" else "f" if kind.startswith("FLAPPING") else "s"
         head = f"{self.count};{self.moment};{it.name};{kind};{now.state}"
         stopped = self.filter_of(number, kind, letter)
         if stopped:
@@ -216,7 +216,7 @@ class Rules:
         elif kind in ("ENABLE_NOTIFICATIONS", "DISABLE_NOTIFICATIONS"):
             self.is_on = kind == "ENABLE_NOTIFICATIONS"
         else:
-            {"STATE": self.state, "DOWNTIME": self.downtime, "FLAPPING": self.flapping, "ACK": self.take_on,
+            {"STATE": self.state, "DOWNTIME": self.downtime, "FLAPPING": self.flapping, "ACK": self.take_on, "TOLD_ACK": self.take_on_aloud,
              "NOTIFICATIONS": self.switch}[kind](number, word)
         self.count += 1
 
@@ -256,6 +256,12 @@ class Rules:
                 now.taken_on, now.ready = None, self.moment
         elif now.state not in NO_PROBLEM:
             now.taken_on = (word, now.state)
+
+    def take_on_aloud(self, number, word):
+        """Somebody takes the problem on, and contacts are told of that."""
+        self.take_on(number, word)
+        if self.statuses[number].state not in NO_PROBLEM:
+            self.attempt(number, "ACKNOWLEDGEMENT")
 
     def switch(self, number, word):
         self.statuses[number].switched = word == "ON"

@@ -12,7 +12,7 @@ use acceptance_inputs::rows::{
     ContactRow, EscalationRow, ObjectRow, PeriodRow, RightsRow, Rows, config_of,
 };
 use due_model::config::{Config, ContactId, Dependency, LaneId, ObjectId, PeriodId, Range};
-use due_model::event::{DowntimeChange, Event, EventKind};
+use due_model::event::{Acknowledgement, DowntimeChange, Event, EventKind};
 use due_model::notice::{Filter, Suppression};
 use due_model::options::OptionLetters;
 use due_model::state::{State, StateSet};
@@ -281,6 +281,13 @@ impl Numbers {
         EventKind::Downtime(ObjectId(object), change)
     }
 
+    /// How a problem is acknowledged.
+    fn acknowledgement(&mut self) -> Acknowledgement {
+        let sticky = self.once_in(2);
+        let notify = self.once_in(2);
+        Acknowledgement { sticky, notify }
+    }
+
     /// What an event says.
     fn event(&mut self) -> EventKind {
         let object = self.below(u64::from(OBJECTS)) as u16;
@@ -289,7 +296,7 @@ impl Numbers {
             1 => EventKind::Flapping(ObjectId(object), self.once_in(2)),
             2 | 3 => self.downtime(object),
             4..=8 => EventKind::Clock,
-            9 | 10 => EventKind::Ack(ObjectId(object), self.once_in(2)),
+            9 | 10 => EventKind::Ack(ObjectId(object), self.acknowledgement()),
             11 => EventKind::AckRemoved(ObjectId(object)),
             12 => EventKind::OwnSwitch(ObjectId(object), !self.once_in(3)),
             _ => self.hard(object),

@@ -59,7 +59,7 @@ const OPEN: View = View {
     host_problem: false,
 };
 
-const ALL: [Kind; 7] = [
+const ALL: [Kind; 8] = [
     Kind::Problem,
     Kind::Recovery,
     Kind::FlappingStart,
@@ -67,6 +67,7 @@ const ALL: [Kind; 7] = [
     Kind::DowntimeStart,
     Kind::DowntimeEnd,
     Kind::DowntimeCancelled,
+    Kind::Acknowledgement,
 ];
 
 // Views that a filter and each later one refuse.

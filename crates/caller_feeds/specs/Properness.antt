@@ -17,7 +17,7 @@ kind_is_proper c (Hard o state) =
     option_map_or (λ (object : Object). is_state_of (is_some object.host) state) (slice_get c.objects o.0) false
 kind_is_proper c (Downtime o change) = nat_lt o.0 (length c.objects)
 kind_is_proper c (Flapping o starts) = nat_lt o.0 (length c.objects)
-kind_is_proper c (Ack o sticky) = nat_lt o.0 (length c.objects)
+kind_is_proper c (Ack o ack) = nat_lt o.0 (length c.objects)
 kind_is_proper c (AckRemoved o) = nat_lt o.0 (length c.objects)
 kind_is_proper c (OwnSwitch o on) = nat_lt o.0 (length c.objects)
 

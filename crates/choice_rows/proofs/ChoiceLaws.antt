@@ -133,7 +133,7 @@ module _ (c : Config) (is : c.choices ≡ own) where
       ap (λ (x : Choices). x.host_repeats && is_service_of c p.0 o && is_problem_state s && same_state s (hard p.0 past)) is
   never_again o (event.Downtime p change) past = refl
   never_again o (event.Flapping p starts) past = refl
-  never_again o (event.Ack p sticky) past = refl
+  never_again o (event.Ack p ack) past = refl
   never_again o (event.AckRemoved p) past = refl
   never_again o (event.OwnSwitch p on) past = refl
 

@@ -34,7 +34,7 @@ touches_other (event.Program on) p is o ne due t = cc
 touches_other (event.Hard q state) p is o ne due t = ne_eqb q.0 o (λ e. ne (sym e ∙ ap (λ (i : ObjectId). i.0) (same_Some q p is)))
 touches_other (event.Downtime q change) p is o ne due t = ne_eqb q.0 o (λ e. ne (sym e ∙ ap (λ (i : ObjectId). i.0) (same_Some q p is)))
 touches_other (event.Flapping q starts) p is o ne due t = ne_eqb q.0 o (λ e. ne (sym e ∙ ap (λ (i : ObjectId). i.0) (same_Some q p is)))
-touches_other (event.Ack q sticky) p is o ne due t = ne_eqb q.0 o (λ e. ne (sym e ∙ ap (λ (i : ObjectId). i.0) (same_Some q p is)))
+touches_other (event.Ack q ack) p is o ne due t = ne_eqb q.0 o (λ e. ne (sym e ∙ ap (λ (i : ObjectId). i.0) (same_Some q p is)))
 touches_other (event.AckRemoved q) p is o ne due t = ne_eqb q.0 o (λ e. ne (sym e ∙ ap (λ (i : ObjectId). i.0) (same_Some q p is)))
 touches_other (event.OwnSwitch q on) p is o ne due t = ne_eqb q.0 o (λ e. ne (sym e ∙ ap (λ (i : ObjectId). i.0) (same_Some q p is)))
 
@@ -45,7 +45,7 @@ touches_own (event.Program on) p is due t = cc
 touches_own (event.Hard q state) p is due t = eq-eqb q.0 p.0 (ap (λ (i : ObjectId). i.0) (same_Some q p is))
 touches_own (event.Downtime q change) p is due t = eq-eqb q.0 p.0 (ap (λ (i : ObjectId). i.0) (same_Some q p is))
 touches_own (event.Flapping q starts) p is due t = eq-eqb q.0 p.0 (ap (λ (i : ObjectId). i.0) (same_Some q p is))
-touches_own (event.Ack q sticky) p is due t = eq-eqb q.0 p.0 (ap (λ (i : ObjectId). i.0) (same_Some q p is))
+touches_own (event.Ack q ack) p is due t = eq-eqb q.0 p.0 (ap (λ (i : ObjectId). i.0) (same_Some q p is))
 touches_own (event.AckRemoved q) p is due t = eq-eqb q.0 p.0 (ap (λ (i : ObjectId). i.0) (same_Some q p is))
 touches_own (event.OwnSwitch q on) p is due t = eq-eqb q.0 p.0 (ap (λ (i : ObjectId). i.0) (same_Some q p is))
 

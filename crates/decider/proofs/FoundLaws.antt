@@ -26,7 +26,7 @@ no_hard (event.Program on) is m x = refl
 no_hard (event.Hard p state) is m x = cc
 no_hard (event.Downtime p change) is m x = refl
 no_hard (event.Flapping p starts) is m x = refl
-no_hard (event.Ack p sticky) is m x = refl
+no_hard (event.Ack p ack) is m x = refl
 no_hard (event.AckRemoved p) is m x = refl
 no_hard (event.OwnSwitch p on) is m x = refl
 
@@ -37,7 +37,7 @@ one_hard (event.Program on) p state is m x = cc
 one_hard (event.Hard q now) p state is m x = ap (λ (given : ObjectId × State). cond (given.0.0 == m) given.1 x) (same_Some (q, now) (p, state) is)
 one_hard (event.Downtime q change) p state is m x = cc
 one_hard (event.Flapping q starts) p state is m x = cc
-one_hard (event.Ack q sticky) p state is m x = cc
+one_hard (event.Ack q ack) p state is m x = cc
 one_hard (event.AckRemoved q) p state is m x = cc
 one_hard (event.OwnSwitch q on) p state is m x = cc
 
@@ -47,7 +47,7 @@ hard_named (event.Program on) p state is = cc
 hard_named (event.Hard q now) p state is = ap (λ (given : ObjectId × State). Some given.0) (same_Some (q, now) (p, state) is)
 hard_named (event.Downtime q change) p state is = cc
 hard_named (event.Flapping q starts) p state is = cc
-hard_named (event.Ack q sticky) p state is = cc
+hard_named (event.Ack q ack) p state is = cc
 hard_named (event.AckRemoved q) p state is = cc
 hard_named (event.OwnSwitch q on) p state is = cc
 
@@ -83,7 +83,7 @@ repeats_given c (event.Program on) p s past o is = cc
 repeats_given c (event.Hard q now) p s past o is = ap (λ (given : ObjectId × State). repeats c o (event.Hard given.0 given.1) past) (same_Some (q, now) (p, s) is)
 repeats_given c (event.Downtime q change) p s past o is = cc
 repeats_given c (event.Flapping q starts) p s past o is = cc
-repeats_given c (event.Ack q sticky) p s past o is = cc
+repeats_given c (event.Ack q ack) p s past o is = cc
 repeats_given c (event.AckRemoved q) p s past o is = cc
 repeats_given c (event.OwnSwitch q on) p s past o is = cc
 

@@ -110,7 +110,7 @@ none_left (event.Program on) t = refl
 none_left (event.Hard p state) t = refl
 none_left (event.Downtime p change) t = refl
 none_left (event.Flapping p starts) t = refl
-none_left (event.Ack p sticky) t = refl
+none_left (event.Ack p ack) t = refl
 none_left (event.AckRemoved p) t = refl
 none_left (event.OwnSwitch p on) t = refl
 
@@ -121,7 +121,7 @@ untouched_left (event.Program on) o due t h = refl
 untouched_left (event.Hard p state) o due t h = refl
 untouched_left (event.Downtime p change) o due t h = refl
 untouched_left (event.Flapping p starts) o due t h = refl
-untouched_left (event.Ack p sticky) o due t h = refl
+untouched_left (event.Ack p ack) o due t h = refl
 untouched_left (event.AckRemoved p) o due t h = refl
 untouched_left (event.OwnSwitch p on) o due t h = refl
 

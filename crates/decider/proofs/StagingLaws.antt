@@ -151,7 +151,7 @@ repeats_other c h (event.Hard q s) past p accepted named again =
     by_service (Some service) at yes = by_host service at service.host refl yes
 repeats_other c h (event.Downtime q change) past p accepted named again = cc
 repeats_other c h (event.Flapping q starts) past p accepted named again = cc
-repeats_other c h (event.Ack q sticky) past p accepted named again = cc
+repeats_other c h (event.Ack q ack) past p accepted named again = cc
 repeats_other c h (event.AckRemoved q) past p accepted named again = cc
 repeats_other c h (event.OwnSwitch q on) past p accepted named again = cc
 
@@ -162,7 +162,7 @@ none_again c (event.Program on) past none o = refl
 none_again c (event.Hard p s) past none o = cc
 none_again c (event.Downtime p change) past none o = refl
 none_again c (event.Flapping p starts) past none o = refl
-none_again c (event.Ack p sticky) past none o = refl
+none_again c (event.Ack p ack) past none o = refl
 none_again c (event.AckRemoved p) past none o = refl
 none_again c (event.OwnSwitch p on) past none o = refl
 

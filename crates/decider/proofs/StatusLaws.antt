@@ -5,6 +5,7 @@ use Rattle.std.proofs.lemmas.List.{length-replicate, set-set, set-get_or}
 use Rattle.std.proofs.lemmas.Option.{same_Some, slice_get_within}
 use Rattle.due_model.specs.declared.config.Config.{Config}
 use Rattle.due_model.specs.declared.config.ObjectId.{ObjectId}
+use Rattle.due_model.specs.declared.event.Acknowledgement.{Acknowledgement}
 use Rattle.due_model.specs.declared.event.DowntimeChange.{DowntimeChange}
 use Rattle.due_model.specs.declared.event.DowntimeChange.TheVariants as change
 use Rattle.due_model.specs.declared.event.Event.{Event}
@@ -67,8 +68,8 @@ left_alone (event.Downtime q change) p is o ne x =
     ap (λ (b : Bool). made x.state (cond b (depth_changed change x.depth) x.depth) x.flapping x.acknowledged x.switched) (ne_eqb q.0 o (λ e. ne (sym (ap (λ (i : ObjectId). i.0) (same_Some q p is)) ∙ e)))
 left_alone (event.Flapping q starts) p is o ne x =
     ap (λ (b : Bool). made x.state x.depth (cond b starts x.flapping) x.acknowledged x.switched) (ne_eqb q.0 o (λ e. ne (sym (ap (λ (i : ObjectId). i.0) (same_Some q p is)) ∙ e)))
-left_alone (event.Ack q sticky) p is o ne x =
-    ap (λ (b : Bool). made x.state x.depth x.flapping (cond (b && is_problem_state x.state) (Some sticky) x.acknowledged) x.switched)
+left_alone (event.Ack q ack) p is o ne x =
+    ap (λ (b : Bool). made x.state x.depth x.flapping (cond (b && is_problem_state x.state) (Some ack.sticky) x.acknowledged) x.switched)
     (ne_eqb q.0 o (λ e. ne (sym (ap (λ (i : ObjectId). i.0) (same_Some q p is)) ∙ e)))
 left_alone (event.AckRemoved q) p is o ne x =
     ap (λ (b : Bool). made x.state x.depth x.flapping (cond b None x.acknowledged) x.switched) (ne_eqb q.0 o (λ e. ne (sym (ap (λ (i : ObjectId). i.0) (same_Some q p is)) ∙ e)))
@@ -82,7 +83,7 @@ none_named (event.Program on) is o x = refl
 none_named (event.Hard q state) is o x = cc
 none_named (event.Downtime q change) is o x = cc
 none_named (event.Flapping q starts) is o x = cc
-none_named (event.Ack q sticky) is o x = cc
+none_named (event.Ack q ack) is o x = cc
 none_named (event.AckRemoved q) is o x = cc
 none_named (event.OwnSwitch q on) is o x = cc
 
@@ -97,7 +98,7 @@ named_within c (event.Program on) proper p is = cc
 named_within c (event.Hard q state) proper p is = subst (λ (i : ObjectId). i.0 < length c.objects) (same_Some q p is) (slice_get_within c.objects q.0 proper.0 proper.1)
 named_within c (event.Downtime q change) proper p is = subst (λ (i : ObjectId). i.0 < length c.objects) (same_Some q p is) proper
 named_within c (event.Flapping q starts) proper p is = subst (λ (i : ObjectId). i.0 < length c.objects) (same_Some q p is) proper
-named_within c (event.Ack q sticky) proper p is = subst (λ (i : ObjectId). i.0 < length c.objects) (same_Some q p is) proper
+named_within c (event.Ack q ack) proper p is = subst (λ (i : ObjectId). i.0 < length c.objects) (same_Some q p is) proper
 named_within c (event.AckRemoved q) proper p is = subst (λ (i : ObjectId). i.0 < length c.objects) (same_Some q p is) proper
 named_within c (event.OwnSwitch q on) proper p is = subst (λ (i : ObjectId). i.0 < length c.objects) (same_Some q p is) proper
 
@@ -201,8 +202,8 @@ acks_alone s p acks =
     ∙ ap (λ (xs : List Bool). lists_of s.states s.depths xs acks (same_switches s p)) (set-get_or s.flaps p false)
     ∙ ap (λ (xs : List (Option Bool)). lists_of s.states s.depths s.flaps acks xs) (set-get_or s.switches p None)
 
-pub ack_counted : (s : StatusLists) (p : ObjectId) (sticky : Bool) → acked_by s p.0 (event.Ack p sticky) ≡ statuses_after (event.Ack p sticky) s
-ack_counted s p sticky = sym (acks_alone s p.0 (set s.acks p.0 (ack_after p.0 (event.Ack p sticky) (get_or s.states p.0 Pending) (get_or s.acks p.0 None))))
+pub ack_counted : (s : StatusLists) (p : ObjectId) (ack : Acknowledgement) → acked_by s p.0 (event.Ack p ack) ≡ statuses_after (event.Ack p ack) s
+ack_counted s p ack = sym (acks_alone s p.0 (set s.acks p.0 (ack_after p.0 (event.Ack p ack) (get_or s.states p.0 Pending) (get_or s.acks p.0 None))))
 
 pub removal_counted : (s : StatusLists) (p : ObjectId) → acked_by s p.0 (event.AckRemoved p) ≡ statuses_after (event.AckRemoved p) s
 removal_counted s p = sym (acks_alone s p.0 (set s.acks p.0 (ack_after p.0 (event.AckRemoved p) (get_or s.states p.0 Pending) (get_or s.acks p.0 None))))
@@ -233,7 +234,7 @@ depth_after_few o (event.Downtime p change) d = by_test (p.0 == o)
     by_test true = depth_changed_few change d
     by_test false = omega arith
 depth_after_few o (event.Flapping p starts) d = omega arith
-depth_after_few o (event.Ack p sticky) d = omega arith
+depth_after_few o (event.Ack p ack) d = omega arith
 depth_after_few o (event.AckRemoved p) d = omega arith
 depth_after_few o (event.OwnSwitch p on) d = omega arith
 

@@ -40,7 +40,7 @@ is_clock (Program on) = false
 is_clock (Hard o state) = false
 is_clock (Downtime o change) = false
 is_clock (Flapping o starts) = false
-is_clock (Ack o sticky) = false
+is_clock (Ack o ack) = false
 is_clock (AckRemoved o) = false
 is_clock (OwnSwitch o on) = false
 

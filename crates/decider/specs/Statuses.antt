@@ -87,7 +87,7 @@ named_by (Program on) = None
 named_by (Hard o state) = Some o
 named_by (Downtime o change) = Some o
 named_by (Flapping o starts) = Some o
-named_by (Ack o sticky) = Some o
+named_by (Ack o ack) = Some o
 named_by (AckRemoved o) = Some o
 named_by (OwnSwitch o on) = Some o
 
@@ -98,7 +98,7 @@ hard_by (Program on) = None
 hard_by (Hard o state) = Some (o, state)
 hard_by (Downtime o change) = None
 hard_by (Flapping o starts) = None
-hard_by (Ack o sticky) = None
+hard_by (Ack o ack) = None
 hard_by (AckRemoved o) = None
 hard_by (OwnSwitch o on) = None
 

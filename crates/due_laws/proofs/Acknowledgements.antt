@@ -28,9 +28,9 @@ acknowledges_by o (Program on) s = none_if (is_problem_state s)
 acknowledges_by o (Hard p t) s = none_if (is_problem_state s)
 acknowledges_by o (Downtime p change) s = none_if (is_problem_state s)
 acknowledges_by o (Flapping p starts) s = none_if (is_problem_state s)
-acknowledges_by o (Ack p sticky) s = by_tests (p.0 == o) (is_problem_state s)
+acknowledges_by o (Ack p ack) s = by_tests (p.0 == o) (is_problem_state s)
   where
-    by_tests : (mine problem : Bool) → (if mine && problem then Some sticky else None) ≡ (if problem then (if mine then Some sticky else None) else None)
+    by_tests : (mine problem : Bool) → (if mine && problem then Some ack.sticky else None) ≡ (if problem then (if mine then Some ack.sticky else None) else None)
     by_tests true true = refl
     by_tests true false = refl
     by_tests false true = refl

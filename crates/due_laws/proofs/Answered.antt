@@ -19,7 +19,7 @@ use Rattle.due_model.specs.declared.rules.Attempt.{Attempt}
 use Rattle.due_model.specs.declared.rules.View.{View}
 use Rattle.due_model.specs.Receivers.{receivers, rights_for}
 use Rattle.due_model.specs.declared.options.OptionLetters.{OptionLetters}
-use Rattle.due_model.specs.Rules.{contact_failing, contact_failing_by, failing, failing_by, first_failing, has_letter, is_untold, letter_of, is_problem, is_recovery, is_of_problem, is_of_downtime, is_too_soon}
+use Rattle.due_model.specs.Rules.{asks_options, contact_failing, contact_failing_by, failing, failing_by, first_failing, has_letter, is_untold, letter_of, is_problem, is_recovery, is_of_problem, is_told_in_downtime, is_too_soon}
 use Rattle.due_model.specs.Periods.{in_period}
 use Rattle.lemmas.proofs.Lists.{AllPairs-head, AllPairs-tail}
 use Rattle.lemmas.proofs.Notices.{receivers_increase, the_notice, notice_to_cases}
@@ -40,9 +40,9 @@ object_filter_by false c zone v a f is =
     named false
     ((not v.program, why.Program)
     ∷ (not v.enabled, why.Disabled)
-    ∷ (not (is_of_downtime a.kind) && v.down, why.Downtime)
+    ∷ (not (is_told_in_downtime a.kind) && v.down, why.Downtime)
     ∷ (is_of_problem a.kind && v.flapping, why.Flapping)
-    ∷ (not (has_letter v.options (letter_of a.kind a.state)), why.Options)
+    ∷ (asks_options a.kind && not (has_letter v.options (letter_of a.kind a.state)), why.Options)
     ∷ (is_recovery a.kind && v.sent == 0, why.NoProblem)
     ∷ (not (in_period c zone v.period a.moment), why.Period)
     ∷ (is_of_problem a.kind && v.depends, why.Dependency)
@@ -59,11 +59,11 @@ object_filter_by true c zone v a f is =
     ∷ (not v.enabled, why.Disabled)
     ∷ (is_problem a.kind && v.acknowledged, why.Acknowledged)
     ∷ (is_of_problem a.kind && v.depends, why.Dependency)
-    ∷ (not (has_letter v.options (letter_of a.kind a.state)), why.Options)
+    ∷ (asks_options a.kind && not (has_letter v.options (letter_of a.kind a.state)), why.Options)
     ∷ (is_recovery a.kind && v.sent == 0, why.NoProblem)
     ∷ (is_problem a.kind && v.sent == 0 && nat_lt a.moment (v.began + 60 * v.delay), why.FirstDelay)
     ∷ (is_of_problem a.kind && v.flapping, why.Flapping)
-    ∷ (not (is_of_downtime a.kind) && v.down, why.Downtime)
+    ∷ (not (is_told_in_downtime a.kind) && v.down, why.Downtime)
     ∷ (is_problem a.kind && not v.renews && is_too_soon v.last a.state a.moment, why.Interval)
     ∷ (is_of_problem a.kind && v.host_problem, why.HostDown)
     ∷ [])

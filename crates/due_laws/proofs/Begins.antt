@@ -52,7 +52,7 @@ after_problem o (Hard p s) old h =
     ap is_problem_state (cond-true (p.0 == o) s old parts.0) ∙ parts.1
 after_problem o (Downtime p change) old h = cc
 after_problem o (Flapping p starts) old h = cc
-after_problem o (Ack p sticky) old h = cc
+after_problem o (Ack p ack) old h = cc
 after_problem o (AckRemoved p) old h = cc
 after_problem o (OwnSwitch p on) old h = cc
 
@@ -65,7 +65,7 @@ keeps_problem o (Hard p s) old ok pending was =
     (λ same. problem_state s (and_second (p.0 == o) (is_ok_state s) ok same) pending) (λ _. was)
 keeps_problem o (Downtime p change) old ok pending was = was
 keeps_problem o (Flapping p starts) old ok pending was = was
-keeps_problem o (Ack p sticky) old ok pending was = was
+keeps_problem o (Ack p ack) old ok pending was = was
 keeps_problem o (AckRemoved p) old ok pending was = was
 keeps_problem o (OwnSwitch p on) old ok pending was = was
 
@@ -75,7 +75,7 @@ not_ok_of o (Program on) h = refl
 not_ok_of o (Hard p s) h = and_right (p.0 == o) (is_ok_state s) (not_ok_state s (and_parts (p.0 == o) (is_problem_state s) h).1)
 not_ok_of o (Downtime p change) h = refl
 not_ok_of o (Flapping p starts) h = refl
-not_ok_of o (Ack p sticky) h = refl
+not_ok_of o (Ack p ack) h = refl
 not_ok_of o (AckRemoved p) h = refl
 not_ok_of o (OwnSwitch p on) h = refl
 
@@ -89,7 +89,7 @@ problem_before o (Hard p s) old h =
     (cases_Bool (p.0 == o))
 problem_before o (Downtime p change) old h = inr (h, refl)
 problem_before o (Flapping p starts) old h = inr (h, refl)
-problem_before o (Ack p sticky) old h = inr (h, refl)
+problem_before o (Ack p ack) old h = inr (h, refl)
 problem_before o (AckRemoved p) old h = inr (h, refl)
 problem_before o (OwnSwitch p on) old h = inr (h, refl)
 

@@ -16,11 +16,11 @@ use Rattle.due_model.specs.Histories.{before, outcome, hist, host_holds, view, d
 use Rattle.due_laws.specs.Laws.{up_to, TellsOfEvent, NothingHoldsBack}
 use Rattle.due_model.specs.Readings.{moment, hard, flapping, down, is_problem_state}
 use Rattle.due_model.specs.declared.rules.Attempt.{Attempt}
-use Rattle.due_model.specs.Rules.{is_of_problem, is_of_downtime}
+use Rattle.due_model.specs.Rules.{is_of_problem, is_told_in_downtime}
 use Rattle.due_model.specs.Receivers.{receivers}
 use Rattle.lemmas.proofs.Notices.{the_notice, notices_to_each}
 use Rattle.due_laws.proofs.NoticeOrder.{due_at_event, due_for_below}
-use Rattle.due_laws.proofs.Verdicts.{Passes, passes_from_none, and_second, problem_is_not_downtime, attempt_at, outcome_cases}
+use Rattle.due_laws.proofs.Verdicts.{Passes, passes_from_none, and_second, problem_waits_for_downtimes, attempt_at, outcome_cases}
 
 up_to-cons : (e : Event) (past : List Event) (i : ℕ) → i < length past → up_to (e ∷ past) i ≡ up_to past i
 up_to-cons e past i h =
@@ -106,7 +106,7 @@ host_is_up o object past (Some g) e h is =
 nothing_holds_back : (c : Config) (zone : Zone) (o : ℕ) (object : Object) (e : Event) (past : List Event) (earlier : List Outcome) (over : Bool) (k : Kind)
     → Passes (view c zone o object e past earlier over) (attempt_at o e past k) → is_of_problem k ≡ true → NothingHoldsBack o object (e ∷ past)
 nothing_holds_back c zone o object e past earlier over k passes of =
-    let up : down_with_host o object (e ∷ past) ≡ false = and_second (not (is_of_downtime k)) (down_with_host o object (e ∷ past)) passes.down (problem_is_not_downtime k of) in
+    let up : down_with_host o object (e ∷ past) ≡ false = and_second (not (is_told_in_downtime k)) (down_with_host o object (e ∷ past)) passes.down (problem_waits_for_downtimes k of) in
     record {
       switched_on = passes.program;
       steady = and_second (is_of_problem k) (flapping o (e ∷ past)) passes.flapping of;

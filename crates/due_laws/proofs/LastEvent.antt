@@ -49,7 +49,7 @@ hard_step o (Program on) old = refl
 hard_step o (Hard p s) old = given_if (p.0 == o) s old
 hard_step o (Downtime p change) old = refl
 hard_step o (Flapping p starts) old = refl
-hard_step o (Ack p sticky) old = refl
+hard_step o (Ack p ack) old = refl
 hard_step o (AckRemoved p) old = refl
 hard_step o (OwnSwitch p on) old = refl
 
@@ -59,7 +59,7 @@ flapping_step o (Program on) old = refl
 flapping_step o (Hard p s) old = refl
 flapping_step o (Downtime p change) old = refl
 flapping_step o (Flapping p starts) old = given_if (p.0 == o) starts old
-flapping_step o (Ack p sticky) old = refl
+flapping_step o (Ack p ack) old = refl
 flapping_step o (AckRemoved p) old = refl
 flapping_step o (OwnSwitch p on) old = refl
 
@@ -69,7 +69,7 @@ switch_step (Program on) old = refl
 switch_step (Hard p s) old = refl
 switch_step (Downtime p change) old = refl
 switch_step (Flapping p starts) old = refl
-switch_step (Ack p sticky) old = refl
+switch_step (Ack p ack) old = refl
 switch_step (AckRemoved p) old = refl
 switch_step (OwnSwitch p on) old = refl
 
@@ -92,7 +92,7 @@ own_switch_step o object (Program on) own = refl
 own_switch_step o object (Hard p s) own = refl
 own_switch_step o object (Downtime p change) own = refl
 own_switch_step o object (Flapping p starts) own = refl
-own_switch_step o object (Ack p sticky) own = refl
+own_switch_step o object (Ack p ack) own = refl
 own_switch_step o object (AckRemoved p) own = refl
 own_switch_step o object (OwnSwitch p on) own = own_given (p.0 == o) on own object.enabled
 

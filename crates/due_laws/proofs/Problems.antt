@@ -78,6 +78,7 @@ number_of_problem kind.FlappingStop sent h = cc
 number_of_problem kind.DowntimeStart sent h = cc
 number_of_problem kind.DowntimeEnd sent h = cc
 number_of_problem kind.DowntimeCancelled sent h = cc
+number_of_problem kind.Acknowledgement sent h = cc
 
 pub sent_follows : (c : Config) (zone : Zone) (o : ℕ) (object : Object) (e : Event) (past : List Event) (earlier : List Outcome) (over : Bool) (k : Kind)
     → (WaitsAreOwn c object → over ≡ false)
@@ -312,6 +313,7 @@ number_is kind.FlappingStop s m gap reach earlier h = refl
 number_is kind.DowntimeStart s m gap reach earlier h = refl
 number_is kind.DowntimeEnd s m gap reach earlier h = refl
 number_is kind.DowntimeCancelled s m gap reach earlier h = refl
+number_is kind.Acknowledgement s m gap reach earlier h = refl
 
 -- each notice of an outcome carries the number, and where it doesn't count there is none
 numbered_by : (c : Config) (zone : Zone) (o : ℕ) (object : Object) (l event : ℕ) (k : Kind) (s : State) (m gap : ℕ) (reach : Reach) (earlier : List Outcome) (b : Bool) → reach.heard ≡ b

@@ -123,7 +123,7 @@ counted o Clock d = nothing_counted d
 counted o (Program on) d = nothing_counted d
 counted o (Hard p s) d = nothing_counted d
 counted o (Flapping p starts) d = nothing_counted d
-counted o (Ack p sticky) d = nothing_counted d
+counted o (Ack p ack) d = nothing_counted d
 counted o (AckRemoved p) d = nothing_counted d
 counted o (OwnSwitch p on) d = nothing_counted d
 counted o (Downtime p Start) d = start_counted (p.0 == o) d

@@ -20,7 +20,7 @@ none_after o (event.Program on) old kept is = cc
 none_after o (event.Hard p s) old kept is = cc
 none_after o (event.Downtime p change) old kept is = cc
 none_after o (event.Flapping p starts) old kept is = cc
-none_after o (event.Ack p sticky) old kept is = cc
+none_after o (event.Ack p ack) old kept is = cc
 none_after o (event.AckRemoved p) old kept is = ap (λ (b : Bool). if b then None else kept) is
 none_after o (event.OwnSwitch p on) old kept is = cc
 
@@ -36,7 +36,7 @@ no_attempt c zone o object m (event.Program on) past is = cc
 no_attempt c zone o object m (event.Hard p s) past is = cc
 no_attempt c zone o object m (event.Downtime p change) past is = cc
 no_attempt c zone o object m (event.Flapping p starts) past is = cc
-no_attempt c zone o object m (event.Ack p sticky) past is = cc
+no_attempt c zone o object m (event.Ack p ack) past is = cc
 no_attempt c zone o object m (event.AckRemoved p) past is = refl
 no_attempt c zone o object m (event.OwnSwitch p on) past is = cc
 

@@ -17,7 +17,7 @@ use Rattle.due_model.specs.Periods.{in_period}
 use Rattle.due_model.specs.Readings.{moment, hard, is_problem_state}
 use Rattle.due_model.specs.declared.rules.Attempt.{Attempt}
 use Rattle.due_model.specs.declared.rules.View.{View}
-use Rattle.due_model.specs.Rules.{attempted, failing, failing_by, first_failing, has_letter, letter_of, is_problem, is_recovery, is_of_problem, is_of_downtime, is_too_soon}
+use Rattle.due_model.specs.Rules.{asks_options, attempted, failing, failing_by, first_failing, has_letter, letter_of, is_problem, is_recovery, is_of_problem, is_told_in_downtime, is_too_soon}
 
 -- one test of a list
 none_by_test : (t : Bool) (f : Filter) (tests : List (Bool × Filter)) → first_failing ((t, f) ∷ tests) ≡ None → (t ≡ false) × (first_failing tests ≡ None)
@@ -31,7 +31,7 @@ and_second false b h e = cc
 -- what passing every filter of an object means
 pub record Passes (v : View) (a : Attempt) : Type 0 where
   pub program : v.program ≡ true
-  pub down : (not (is_of_downtime a.kind) && v.down) ≡ false
+  pub down : (not (is_told_in_downtime a.kind) && v.down) ≡ false
   pub flapping : (is_of_problem a.kind && v.flapping) ≡ false
   pub sent : (is_recovery a.kind && v.sent == 0) ≡ false
   pub interval : (is_problem a.kind && not v.renews && is_too_soon v.last a.state a.moment) ≡ false
@@ -47,15 +47,15 @@ passes_in_order false c zone v a h =
     let t8 : List (Bool × Filter) = (is_of_problem a.kind && v.depends, why.Dependency) ∷ t9 in
     let t7 : List (Bool × Filter) = (not (in_period c zone v.period a.moment), why.Period) ∷ t8 in
     let t6 : List (Bool × Filter) = (is_recovery a.kind && v.sent == 0, why.NoProblem) ∷ t7 in
-    let t5 : List (Bool × Filter) = (not (has_letter v.options (letter_of a.kind a.state)), why.Options) ∷ t6 in
+    let t5 : List (Bool × Filter) = (asks_options a.kind && not (has_letter v.options (letter_of a.kind a.state)), why.Options) ∷ t6 in
     let t4 : List (Bool × Filter) = (is_of_problem a.kind && v.flapping, why.Flapping) ∷ t5 in
-    let t3 : List (Bool × Filter) = (not (is_of_downtime a.kind) && v.down, why.Downtime) ∷ t4 in
+    let t3 : List (Bool × Filter) = (not (is_told_in_downtime a.kind) && v.down, why.Downtime) ∷ t4 in
     let t2 : List (Bool × Filter) = (not v.enabled, why.Disabled) ∷ t3 in
     let p1 = none_by_test (not v.program) why.Program t2 h in
     let p2 = none_by_test (not v.enabled) why.Disabled t3 p1.1 in
-    let p3 = none_by_test (not (is_of_downtime a.kind) && v.down) why.Downtime t4 p2.1 in
+    let p3 = none_by_test (not (is_told_in_downtime a.kind) && v.down) why.Downtime t4 p2.1 in
     let p4 = none_by_test (is_of_problem a.kind && v.flapping) why.Flapping t5 p3.1 in
-    let p5 = none_by_test (not (has_letter v.options (letter_of a.kind a.state))) why.Options t6 p4.1 in
+    let p5 = none_by_test (asks_options a.kind && not (has_letter v.options (letter_of a.kind a.state))) why.Options t6 p4.1 in
     let p6 = none_by_test (is_recovery a.kind && v.sent == 0) why.NoProblem t7 p5.1 in
     let p7 = none_by_test (not (in_period c zone v.period a.moment)) why.Period t8 p6.1 in
     let p8 = none_by_test (is_of_problem a.kind && v.depends) why.Dependency t9 p7.1 in
@@ -67,11 +67,11 @@ passes_in_order false c zone v a h =
 passes_in_order true c zone v a h =
     let t12 : List (Bool × Filter) = (is_of_problem a.kind && v.host_problem, why.HostDown) ∷ [] in
     let t11 : List (Bool × Filter) = (is_problem a.kind && not v.renews && is_too_soon v.last a.state a.moment, why.Interval) ∷ t12 in
-    let t10 : List (Bool × Filter) = (not (is_of_downtime a.kind) && v.down, why.Downtime) ∷ t11 in
+    let t10 : List (Bool × Filter) = (not (is_told_in_downtime a.kind) && v.down, why.Downtime) ∷ t11 in
     let t9 : List (Bool × Filter) = (is_of_problem a.kind && v.flapping, why.Flapping) ∷ t10 in
     let t8 : List (Bool × Filter) = (is_problem a.kind && v.sent == 0 && nat_lt a.moment (v.began + 60 * v.delay), why.FirstDelay) ∷ t9 in
     let t7 : List (Bool × Filter) = (is_recovery a.kind && v.sent == 0, why.NoProblem) ∷ t8 in
-    let t6 : List (Bool × Filter) = (not (has_letter v.options (letter_of a.kind a.state)), why.Options) ∷ t7 in
+    let t6 : List (Bool × Filter) = (asks_options a.kind && not (has_letter v.options (letter_of a.kind a.state)), why.Options) ∷ t7 in
     let t5 : List (Bool × Filter) = (is_of_problem a.kind && v.depends, why.Dependency) ∷ t6 in
     let t4 : List (Bool × Filter) = (is_problem a.kind && v.acknowledged, why.Acknowledged) ∷ t5 in
     let t3 : List (Bool × Filter) = (not v.enabled, why.Disabled) ∷ t4 in
@@ -81,11 +81,11 @@ passes_in_order true c zone v a h =
     let p3 = none_by_test (not v.enabled) why.Disabled t4 p2.1 in
     let p4 = none_by_test (is_problem a.kind && v.acknowledged) why.Acknowledged t5 p3.1 in
     let p5 = none_by_test (is_of_problem a.kind && v.depends) why.Dependency t6 p4.1 in
-    let p6 = none_by_test (not (has_letter v.options (letter_of a.kind a.state))) why.Options t7 p5.1 in
+    let p6 = none_by_test (asks_options a.kind && not (has_letter v.options (letter_of a.kind a.state))) why.Options t7 p5.1 in
     let p7 = none_by_test (is_recovery a.kind && v.sent == 0) why.NoProblem t8 p6.1 in
     let p8 = none_by_test (is_problem a.kind && v.sent == 0 && nat_lt a.moment (v.began + 60 * v.delay)) why.FirstDelay t9 p7.1 in
     let p9 = none_by_test (is_of_problem a.kind && v.flapping) why.Flapping t10 p8.1 in
-    let p10 = none_by_test (not (is_of_downtime a.kind) && v.down) why.Downtime t11 p9.1 in
+    let p10 = none_by_test (not (is_told_in_downtime a.kind) && v.down) why.Downtime t11 p9.1 in
     let p11 = none_by_test (is_problem a.kind && not v.renews && is_too_soon v.last a.state a.moment) why.Interval t12 p10.1 in
     let p12 = none_by_test (is_of_problem a.kind && v.host_problem) why.HostDown [] p11.1 in
     record { program = not-false v.program p1.0; down = p10.0; flapping = p9.0; sent = p7.0; interval = p11.0; host = p12.0 }
@@ -93,15 +93,16 @@ passes_in_order true c zone v a h =
 pub passes_from_none : (c : Config) (zone : Zone) (v : View) (a : Attempt) → failing c zone v a ≡ None → Passes v a
 passes_from_none c zone v a h = passes_in_order c.choices.order c zone v a h
 
--- a problem or a recovery tells of no downtime
-pub problem_is_not_downtime : (k : Kind) → is_of_problem k ≡ true → not (is_of_downtime k) ≡ true
-problem_is_not_downtime kind.Problem h = refl
-problem_is_not_downtime kind.Recovery h = refl
-problem_is_not_downtime kind.FlappingStart h = refl
-problem_is_not_downtime kind.FlappingStop h = refl
-problem_is_not_downtime kind.DowntimeStart h = cc
-problem_is_not_downtime kind.DowntimeEnd h = cc
-problem_is_not_downtime kind.DowntimeCancelled h = cc
+-- a problem or a recovery isn't told in a downtime
+pub problem_waits_for_downtimes : (k : Kind) → is_of_problem k ≡ true → not (is_told_in_downtime k) ≡ true
+problem_waits_for_downtimes kind.Problem h = refl
+problem_waits_for_downtimes kind.Recovery h = refl
+problem_waits_for_downtimes kind.FlappingStart h = refl
+problem_waits_for_downtimes kind.FlappingStop h = refl
+problem_waits_for_downtimes kind.DowntimeStart h = cc
+problem_waits_for_downtimes kind.DowntimeEnd h = cc
+problem_waits_for_downtimes kind.DowntimeCancelled h = cc
+problem_waits_for_downtimes kind.Acknowledgement h = cc
 
 -- the attempt of this kind at an event
 abbrev pub attempt_at : ℕ → Event → List Event → Kind → Attempt

@@ -18,7 +18,7 @@ ack_of o (Program on) = None
 ack_of o (Hard p s) = None
 ack_of o (Downtime p change) = None
 ack_of o (Flapping p starts) = None
-ack_of o (Ack p sticky) = if p.0 == o then Some sticky else None
+ack_of o (Ack p ack) = if p.0 == o then Some ack.sticky else None
 ack_of o (AckRemoved p) = None
 ack_of o (OwnSwitch p on) = None
 

@@ -138,6 +138,7 @@ number_carried kind.FlappingStop sent = 0
 number_carried kind.DowntimeStart sent = 0
 number_carried kind.DowntimeEnd sent = 0
 number_carried kind.DowntimeCancelled sent = 0
+number_carried kind.Acknowledgement sent = 0
 
 -- Each notice carries that number.
 abbrev pub NoticesAreNumbered : Type 0

@@ -114,6 +114,11 @@ abbrev pub stops_of_flapping : List (Option Filter)
 stops_of_flapping = Some filter.Program ∷ Some filter.Disabled ∷ Some filter.Downtime
     ∷ Some filter.Options ∷ Some filter.Options ∷ Some filter.Period ∷ None ∷ None ∷ None ∷ None ∷ None ∷ None ∷ []
 
+-- nothing of that holds one of an acknowledgement back, nor do the options
+abbrev pub stops_of_acknowledgement : List (Option Filter)
+stops_of_acknowledgement = Some filter.Program ∷ Some filter.Disabled ∷ Some filter.Period
+    ∷ Some filter.Period ∷ Some filter.Period ∷ Some filter.Period ∷ None ∷ None ∷ None ∷ None ∷ None ∷ None ∷ []
+
 -- The first filter that fails is named, of those that speak of the kind (chapter "Notifications").
 pub record FiltersStandInOrder : Type 0 where
   pub problem : stopped_by kind.Problem mended ≡
@@ -138,6 +143,7 @@ pub record FiltersStandInOrder : Type 0 where
   pub downtime_start : stopped_by kind.DowntimeStart mended ≡ stops_of_downtime
   pub downtime_end : stopped_by kind.DowntimeEnd mended ≡ stops_of_downtime
   pub downtime_cancelled : stopped_by kind.DowntimeCancelled mended ≡ stops_of_downtime
+  pub acknowledgement : stopped_by kind.Acknowledgement mended ≡ stops_of_acknowledgement
 
 -- the rights of a contact, mended likewise
 abbrev pub refuses_all : Rights

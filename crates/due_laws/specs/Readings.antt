@@ -57,7 +57,7 @@ starts_downtime o (Downtime p Start) = p.0 == o
 starts_downtime o (Downtime p End) = false
 starts_downtime o (Downtime p Cancelled) = false
 starts_downtime o (Flapping p starts) = false
-starts_downtime o (Ack p sticky) = false
+starts_downtime o (Ack p ack) = false
 starts_downtime o (AckRemoved p) = false
 starts_downtime o (OwnSwitch p on) = false
 
@@ -69,7 +69,7 @@ ends_downtime o (Downtime p Start) = false
 ends_downtime o (Downtime p End) = p.0 == o
 ends_downtime o (Downtime p Cancelled) = p.0 == o
 ends_downtime o (Flapping p starts) = false
-ends_downtime o (Ack p sticky) = false
+ends_downtime o (Ack p ack) = false
 ends_downtime o (AckRemoved p) = false
 ends_downtime o (OwnSwitch p on) = false
 
@@ -110,7 +110,7 @@ is_pending_event (Program on) = false
 is_pending_event (Hard p s) = is_pending s
 is_pending_event (Downtime p change) = false
 is_pending_event (Flapping p starts) = false
-is_pending_event (Ack p sticky) = false
+is_pending_event (Ack p ack) = false
 is_pending_event (AckRemoved p) = false
 is_pending_event (OwnSwitch p on) = false
 
@@ -159,7 +159,7 @@ hard_state_of o (Program on) = None
 hard_state_of o (Hard p s) = if p.0 == o then Some s else None
 hard_state_of o (Downtime p change) = None
 hard_state_of o (Flapping p starts) = None
-hard_state_of o (Ack p sticky) = None
+hard_state_of o (Ack p ack) = None
 hard_state_of o (AckRemoved p) = None
 hard_state_of o (OwnSwitch p on) = None
 
@@ -170,7 +170,7 @@ flapping_of o (Program on) = None
 flapping_of o (Hard p s) = None
 flapping_of o (Downtime p change) = None
 flapping_of o (Flapping p starts) = if p.0 == o then Some starts else None
-flapping_of o (Ack p sticky) = None
+flapping_of o (Ack p ack) = None
 flapping_of o (AckRemoved p) = None
 flapping_of o (OwnSwitch p on) = None
 
@@ -181,7 +181,7 @@ switch_of (Program on) = Some on
 switch_of (Hard p s) = None
 switch_of (Downtime p change) = None
 switch_of (Flapping p starts) = None
-switch_of (Ack p sticky) = None
+switch_of (Ack p ack) = None
 switch_of (AckRemoved p) = None
 switch_of (OwnSwitch p on) = None
 
@@ -192,7 +192,7 @@ own_switch_of o (Program on) = None
 own_switch_of o (Hard p s) = None
 own_switch_of o (Downtime p change) = None
 own_switch_of o (Flapping p starts) = None
-own_switch_of o (Ack p sticky) = None
+own_switch_of o (Ack p ack) = None
 own_switch_of o (AckRemoved p) = None
 own_switch_of o (OwnSwitch p on) = if p.0 == o then Some on else None
 

@@ -21,7 +21,7 @@ is_ok_of o (Program now) = false
 is_ok_of o (Hard p s) = p.0 == o && is_ok_state s
 is_ok_of o (Downtime p change) = false
 is_ok_of o (Flapping p starts) = false
-is_ok_of o (Ack p sticky) = false
+is_ok_of o (Ack p ack) = false
 is_ok_of o (AckRemoved p) = false
 is_ok_of o (OwnSwitch p on) = false
 
@@ -32,7 +32,7 @@ ends_ack o (Program now) = false
 ends_ack o (Hard p s) = p.0 == o && is_ok_state s
 ends_ack o (Downtime p change) = false
 ends_ack o (Flapping p starts) = false
-ends_ack o (Ack p sticky) = false
+ends_ack o (Ack p ack) = false
 ends_ack o (AckRemoved p) = p.0 == o
 ends_ack o (OwnSwitch p on) = false
 
@@ -43,8 +43,8 @@ acknowledges o (Program now) state = None
 acknowledges o (Hard p s) state = None
 acknowledges o (Downtime p change) state = None
 acknowledges o (Flapping p starts) state = None
-acknowledges o (Ack p sticky) state =
-    if p.0 == o && is_problem_state state then Some sticky else None
+acknowledges o (Ack p ack) state =
+    if p.0 == o && is_problem_state state then Some ack.sticky else None
 acknowledges o (AckRemoved p) state = None
 acknowledges o (OwnSwitch p on) state = None
 
@@ -97,7 +97,7 @@ ack_after o (Program on) old kept = kept
 ack_after o (Hard p s) old kept = if p.0 == o then kept_in_state kept old s else kept
 ack_after o (Downtime p change) old kept = kept
 ack_after o (Flapping p starts) old kept = kept
-ack_after o (Ack p sticky) old kept = if p.0 == o && is_problem_state old then Some sticky else kept
+ack_after o (Ack p ack) old kept = if p.0 == o && is_problem_state old then Some ack.sticky else kept
 ack_after o (AckRemoved p) old kept = if p.0 == o then None else kept
 ack_after o (OwnSwitch p on) old kept = kept
 

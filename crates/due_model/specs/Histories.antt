@@ -252,6 +252,7 @@ number_after sent kind.FlappingStop = 0
 number_after sent kind.DowntimeStart = 0
 number_after sent kind.DowntimeEnd = 0
 number_after sent kind.DowntimeCancelled = 0
+number_after sent kind.Acknowledgement = 0
 
 -- the gap of a notice: only a problem's has one
 abbrev pub gap_of : Config → Zone → ℕ → Object → Attempt → (number : ℕ) → ℕ
@@ -308,7 +309,7 @@ repeats c o (event.Hard p s) past =
     c.choices.host_repeats && is_service_of c p.0 o && is_problem_state s && same_state s (hard p.0 past)
 repeats c o (event.Downtime p change) past = false
 repeats c o (event.Flapping p starts) past = false
-repeats c o (event.Ack p sticky) past = false
+repeats c o (event.Ack p ack) past = false
 repeats c o (event.AckRemoved p) past = false
 repeats c o (event.OwnSwitch p on) past = false
 

@@ -30,7 +30,7 @@ KindIsProper c (Hard o state) =
     × IsTrue (is_state_of (is_some object.host) state)
 KindIsProper c (Downtime o change) = HasObject c o.0
 KindIsProper c (Flapping o starts) = HasObject c o.0
-KindIsProper c (Ack o sticky) = HasObject c o.0
+KindIsProper c (Ack o ack) = HasObject c o.0
 KindIsProper c (AckRemoved o) = HasObject c o.0
 KindIsProper c (OwnSwitch o on) = HasObject c o.0
 

@@ -42,7 +42,7 @@ switch_after (Program now) on = now
 switch_after (Hard p s) on = on
 switch_after (Downtime p change) on = on
 switch_after (Flapping p starts) on = on
-switch_after (Ack p sticky) on = on
+switch_after (Ack p ack) on = on
 switch_after (AckRemoved p) on = on
 switch_after (OwnSwitch p own) on = on
 
@@ -58,7 +58,7 @@ hard_after o (Program now) state = state
 hard_after o (Hard p s) state = if p.0 == o then s else state
 hard_after o (Downtime p change) state = state
 hard_after o (Flapping p starts) state = state
-hard_after o (Ack p sticky) state = state
+hard_after o (Ack p ack) state = state
 hard_after o (AckRemoved p) state = state
 hard_after o (OwnSwitch p on) state = state
 
@@ -79,7 +79,7 @@ depth_after o (Program now) depth = depth
 depth_after o (Hard p s) depth = depth
 depth_after o (Downtime p change) depth = if p.0 == o then depth_changed change depth else depth
 depth_after o (Flapping p starts) depth = depth
-depth_after o (Ack p sticky) depth = depth
+depth_after o (Ack p ack) depth = depth
 depth_after o (AckRemoved p) depth = depth
 depth_after o (OwnSwitch p on) depth = depth
 
@@ -98,7 +98,7 @@ flapping_after o (Program now) flapping = flapping
 flapping_after o (Hard p s) flapping = flapping
 flapping_after o (Downtime p change) flapping = flapping
 flapping_after o (Flapping p starts) flapping = if p.0 == o then starts else flapping
-flapping_after o (Ack p sticky) flapping = flapping
+flapping_after o (Ack p ack) flapping = flapping
 flapping_after o (AckRemoved p) flapping = flapping
 flapping_after o (OwnSwitch p on) flapping = flapping
 
@@ -114,7 +114,7 @@ is_problem_of o (Program now) = false
 is_problem_of o (Hard p s) = p.0 == o && is_problem_state s
 is_problem_of o (Downtime p change) = false
 is_problem_of o (Flapping p starts) = false
-is_problem_of o (Ack p sticky) = false
+is_problem_of o (Ack p ack) = false
 is_problem_of o (AckRemoved p) = false
 is_problem_of o (OwnSwitch p on) = false
 
@@ -131,7 +131,7 @@ switched_after o (Program now) own = own
 switched_after o (Hard p s) own = own
 switched_after o (Downtime p change) own = own
 switched_after o (Flapping p starts) own = own
-switched_after o (Ack p sticky) own = own
+switched_after o (Ack p ack) own = own
 switched_after o (AckRemoved p) own = own
 switched_after o (OwnSwitch p on) own = if p.0 == o then Some on else own
 

@@ -15,7 +15,7 @@ use Rattle.due_model.specs.Readings.{is_problem_state}
 use Rattle.due_model.specs.Rules.{contact_failing, letter_of, state_letter}
 use Rattle.due_model.specs.Escalations.{reach, contacts_with, has_contact}
 
--- the contacts that a notice of flapping or a downtime goes to, with so many notices of the object's problem before it:
+-- the contacts that a notice of flapping, a downtime or an acknowledgement goes to, with so many notices of the object's problem before it:
 -- the object's own; by the daemon's rule, in a problem state, those that the last of them reaches
 abbrev pub others : Config → Zone → ℕ → Object → Attempt → (standing : ℕ) → List ℕ
 others c zone o object a standing =
@@ -36,6 +36,7 @@ receivers c zone o object a number standing = of_kind a.kind
     of_kind kind.DowntimeStart = others c zone o object a standing
     of_kind kind.DowntimeEnd = others c zone o object a standing
     of_kind kind.DowntimeCancelled = others c zone o object a standing
+    of_kind kind.Acknowledgement = others c zone o object a standing
 
 -- what a contact is notified of, for the kind of this object
 abbrev pub rights_for : Object → Contact → Rights

@@ -2,6 +2,7 @@
 use Rattle.std.specs.Prelude.{ℕ, ◌+◌, ◌*◌, Bool, true, false, not, ◌&&◌, ◌||◌, List, [], ◌∷◌, nat_lt, nat_le, ◌==◌, Option, Some, None, if◌then◌else◌}
 use Rattle.due_model.specs.declared.event.EventKind.{EventKind}
 use Rattle.due_model.specs.declared.event.EventKind.TheVariants as event
+use Rattle.due_model.specs.declared.event.Acknowledgement.{Acknowledgement}
 use Rattle.due_model.specs.declared.event.DowntimeChange.{DowntimeChange}
 use Rattle.due_model.specs.declared.event.DowntimeChange.TheVariants as change
 use Rattle.due_model.specs.declared.state.State.{State}
@@ -52,6 +53,11 @@ abbrev pub attempted_by_flapping : (flapping starts : Bool) → Option Kind
 attempted_by_flapping flapping true = if flapping then None else Some kind.FlappingStart
 attempted_by_flapping flapping false = if flapping then Some kind.FlappingStop else None
 
+-- an acknowledgement is notified of where that is asked for; only a problem is acknowledged
+abbrev pub attempted_by_ack : State → Acknowledgement → Option Kind
+attempted_by_ack state ack =
+    if is_problem_state state && ack.notify then Some kind.Acknowledgement else None
+
 -- What an event attempts on object o, of which this was the status before it, and that the ready moment, at moment t
 -- (chapter "Notifications", "When Do Notifications Occur?"). The clock attempts a problem again once its ready
 -- moment has come.
@@ -65,7 +71,8 @@ attempted o (event.Downtime p change) old ready t =
     if p.0 == o then attempted_by_downtime old.depth change else None
 attempted o (event.Flapping p starts) old ready t =
     if p.0 == o then attempted_by_flapping old.flapping starts else None
-attempted o (event.Ack p sticky) old ready t = None
+attempted o (event.Ack p ack) old ready t =
+    if p.0 == o then attempted_by_ack old.state ack else None
 attempted o (event.AckRemoved p) old ready t = None
 attempted o (event.OwnSwitch p on) old ready t = None
 
@@ -80,7 +87,7 @@ state_letter state.Warning = letter.Warning
 state_letter state.Unknown = letter.Unknown
 state_letter state.Critical = letter.Critical
 
--- the letter of a notification: that of the state for a problem, else that of its kind
+-- the letter of a notification: that of the state for a problem and its acknowledgement, else that of its kind
 abbrev pub letter_of : Kind → State → OptionLetter
 letter_of kind.Problem s = state_letter s
 letter_of kind.Recovery s = letter.Recovery
@@ -89,6 +96,7 @@ letter_of kind.FlappingStop s = letter.Flapping
 letter_of kind.DowntimeStart s = letter.Downtime
 letter_of kind.DowntimeEnd s = letter.Downtime
 letter_of kind.DowntimeCancelled s = letter.Downtime
+letter_of kind.Acknowledgement s = state_letter s
 
 -- whether a letter is in a set
 abbrev pub has_letter : OptionLetters → OptionLetter → Bool
@@ -161,6 +169,7 @@ is_problem kind.FlappingStop = false
 is_problem kind.DowntimeStart = false
 is_problem kind.DowntimeEnd = false
 is_problem kind.DowntimeCancelled = false
+is_problem kind.Acknowledgement = false
 
 abbrev pub is_recovery : Kind → Bool
 is_recovery kind.Problem = false
@@ -170,15 +179,29 @@ is_recovery kind.FlappingStop = false
 is_recovery kind.DowntimeStart = false
 is_recovery kind.DowntimeEnd = false
 is_recovery kind.DowntimeCancelled = false
+is_recovery kind.Acknowledgement = false
 
-abbrev pub is_of_downtime : Kind → Bool
-is_of_downtime kind.Problem = false
-is_of_downtime kind.Recovery = false
-is_of_downtime kind.FlappingStart = false
-is_of_downtime kind.FlappingStop = false
-is_of_downtime kind.DowntimeStart = true
-is_of_downtime kind.DowntimeEnd = true
-is_of_downtime kind.DowntimeCancelled = true
+-- what is told in a downtime too: downtimes themselves, and acknowledgements
+abbrev pub is_told_in_downtime : Kind → Bool
+is_told_in_downtime kind.Problem = false
+is_told_in_downtime kind.Recovery = false
+is_told_in_downtime kind.FlappingStart = false
+is_told_in_downtime kind.FlappingStop = false
+is_told_in_downtime kind.DowntimeStart = true
+is_told_in_downtime kind.DowntimeEnd = true
+is_told_in_downtime kind.DowntimeCancelled = true
+is_told_in_downtime kind.Acknowledgement = true
+
+-- of what the object's options are asked: of all but acknowledgements
+abbrev pub asks_options : Kind → Bool
+asks_options kind.Problem = true
+asks_options kind.Recovery = true
+asks_options kind.FlappingStart = true
+asks_options kind.FlappingStop = true
+asks_options kind.DowntimeStart = true
+asks_options kind.DowntimeEnd = true
+asks_options kind.DowntimeCancelled = true
+asks_options kind.Acknowledgement = false
 
 -- a problem, or the recovery from one
 abbrev pub is_of_problem : Kind → Bool
@@ -205,9 +228,12 @@ abbrev pub in_own_order : Config → Zone → View → Attempt → List (Bool ×
 in_own_order c zone v a =
     (not v.program, filter.Program)
     ∷ (not v.enabled, filter.Disabled)
-    ∷ (not (is_of_downtime a.kind) && v.down, filter.Downtime)
+    ∷ (not (is_told_in_downtime a.kind) && v.down, filter.Downtime)
     ∷ (is_of_problem a.kind && v.flapping, filter.Flapping)
-    ∷ (not (has_letter v.options (letter_of a.kind a.state)), filter.Options)
+    ∷ (
+      asks_options a.kind && not (has_letter v.options (letter_of a.kind a.state)),
+      filter.Options,
+    )
     ∷ (is_recovery a.kind && v.sent == 0, filter.NoProblem)
     ∷ (not (in_period c zone v.period a.moment), filter.Period)
     ∷ (is_of_problem a.kind && v.depends, filter.Dependency)
@@ -232,7 +258,10 @@ in_daemons_order c zone v a =
     ∷ (not v.enabled, filter.Disabled)
     ∷ (is_problem a.kind && v.acknowledged, filter.Acknowledged)
     ∷ (is_of_problem a.kind && v.depends, filter.Dependency)
-    ∷ (not (has_letter v.options (letter_of a.kind a.state)), filter.Options)
+    ∷ (
+      asks_options a.kind && not (has_letter v.options (letter_of a.kind a.state)),
+      filter.Options,
+    )
     ∷ (is_recovery a.kind && v.sent == 0, filter.NoProblem)
     ∷ (
       is_problem a.kind && v.sent == 0
@@ -240,7 +269,7 @@ in_daemons_order c zone v a =
       filter.FirstDelay,
     )
     ∷ (is_of_problem a.kind && v.flapping, filter.Flapping)
-    ∷ (not (is_of_downtime a.kind) && v.down, filter.Downtime)
+    ∷ (not (is_told_in_downtime a.kind) && v.down, filter.Downtime)
     ∷ (
       is_problem a.kind && not v.renews && is_too_soon v.last a.state a.moment,
       filter.Interval,

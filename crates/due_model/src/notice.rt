@@ -14,6 +14,7 @@ pub enum Kind {
     DowntimeStart,
     DowntimeEnd,
     DowntimeCancelled,
+    Acknowledgement,
 }
 
 /// What stops a notification, in the order in which the filters are tried.

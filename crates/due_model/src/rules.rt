@@ -4,15 +4,15 @@ ghost use Rattle.std.specs.Prelude.{◌≡◌, ◌+◌, ◌^◌, ◌<◌, Some, 
 ghost use Rattle.due_model.specs.Readings.{is_ok_state, is_problem_state, switch_after, hard_after};
 ghost use Rattle.due_model.specs.Readings.{depth_changed, is_hard_of, is_problem_of, switched_after};
 ghost use Rattle.due_model.specs.Acknowledgements.{ack_after, is_removal_of, kept_in_state};
-ghost use Rattle.due_model.specs.Rules.{attempted, attempted_by_state, attempted_by_downtime};
+ghost use Rattle.due_model.specs.Rules.{asks_options, attempted, attempted_by_ack, attempted_by_state, attempted_by_downtime};
 ghost use Rattle.due_model.specs.Rules.{attempted_by_flapping, downtime_kind, has_come, state_letter};
 ghost use Rattle.due_model.specs.Rules.{letter_of, has_letter, meets, with_letter, is_too_soon, next_notice, same_state};
-ghost use Rattle.due_model.specs.Rules.{is_problem, is_recovery, is_of_problem, is_of_downtime};
+ghost use Rattle.due_model.specs.Rules.{is_problem, is_recovery, is_of_problem, is_told_in_downtime};
 ghost use Rattle.due_model.specs.Dependencies.{counted, fails_at, has_state};
 ghost use Rattle.due_model.specs.Histories.{number_after};
 
 use crate::config::{ObjectId, PeriodId};
-use crate::event::{DowntimeChange, EventKind};
+use crate::event::{Acknowledgement, DowntimeChange, EventKind};
 use crate::notice::Kind;
 use crate::options::{OptionLetter, OptionLetters};
 use crate::state::{State, StateSet};
@@ -155,7 +155,7 @@ impl Kind {
         ensures { result ≡ letter_of self state }
     {
         match self {
-            Kind::Problem => state.letter(),
+            Kind::Problem | Kind::Acknowledgement => state.letter(),
             Kind::Recovery => OptionLetter::Recovery,
             Kind::FlappingStart | Kind::FlappingStop => OptionLetter::Flapping,
             Kind::DowntimeStart | Kind::DowntimeEnd | Kind::DowntimeCancelled =>
@@ -184,14 +184,24 @@ impl Kind {
         matches!(self, Kind::Problem | Kind::Recovery)
     }
 
-    /// Whether this notification is about a downtime.
-    pub fn is_of_downtime(self) -> bool
-        ensures { result ≡ is_of_downtime self }
+    /// Whether this notification goes out in a downtime too: it is about a downtime, or an acknowledgement.
+    pub fn is_told_in_downtime(self) -> bool
+        ensures { result ≡ is_told_in_downtime self }
     {
         matches!(
             self,
-            Kind::DowntimeStart | Kind::DowntimeCancelled | Kind::DowntimeEnd
+            Kind::DowntimeStart
+                | Kind::DowntimeCancelled
+                | Kind::DowntimeEnd
+                | Kind::Acknowledgement
         )
+    }
+
+    /// Whether the object's options are asked for the letter of this notification: of all but an acknowledgement.
+    pub fn asks_options(self) -> bool
+        ensures { result ≡ asks_options self }
+    {
+        !matches!(self, Kind::Acknowledgement)
     }
 
     /// The number of a notification of this kind in its problem, of which so many problem notices went out
@@ -252,9 +262,9 @@ impl EventKind {
                     kept
                 }
             }
-            EventKind::Ack(named, sticky) => {
+            EventKind::Ack(named, ack) => {
                 if named.0 == object.0 && state.is_problem() {
-                    Some(sticky)
+                    Some(ack.sticky)
                 } else {
                     kept
                 }
@@ -392,6 +402,17 @@ pub fn attempted_by_flapping(flapping: bool, starts: bool) -> Option<Kind>
     }
 }
 
+/// What an acknowledgement attempts on an object in this hard state: only a problem is acknowledged.
+pub fn attempted_by_ack(state: State, ack: Acknowledgement) -> Option<Kind>
+    ensures { result ≡ attempted_by_ack state ack }
+{
+    if state.is_problem() && ack.notify {
+        Some(Kind::Acknowledgement)
+    } else {
+        None
+    }
+}
+
 /// What an event attempts on an object, of which `old` was the status before it and `ready` the ready moment,
 /// at moment `t` (chapter "Notifications", "When Do Notifications Occur?"). None is "nothing".
 pub fn attempted(
@@ -434,7 +455,14 @@ pub fn attempted(
                 None
             }
         }
-        EventKind::Ack(_, _) | EventKind::AckRemoved(_) | EventKind::OwnSwitch(_, _) => None,
+        EventKind::Ack(named, ack) => {
+            if named.0 == object.0 {
+                attempted_by_ack(old.state, ack)
+            } else {
+                None
+            }
+        }
+        EventKind::AckRemoved(_) | EventKind::OwnSwitch(_, _) => None,
     }
 }
 

@@ -1,6 +1,6 @@
 -- No word has a `;`. So of an object that is known, a wrong word and an argument too many are told by one look: neither
--- is one of the words.
-use Rattle.std.proofs.Common.{◌≡◌, ℕ, ◌<◌, ◌≤◌, true, false, not, cond, eqb, List, [], ◌∷◌, length, Option, Some, None, Err, refl, sym, ap, subst, ◌∙◌, ◌⊎◌, inl, inr, ⊎_elim, arith}
+-- is one of the words that stand alone.
+use Rattle.std.proofs.Common.{◌≡◌, ℕ, ◌<◌, ◌≤◌, Bool, true, false, if◌then◌else◌, not, cond, eqb, List, [], ◌∷◌, length, Option, Some, None, Err, refl, sym, ap, subst, ◌∙◌, ◌⊎◌, inl, inr, ⊎_elim, arith}
 use Rattle.std.specs.Prelude.{codes}
 use Rattle.std.specs.List.{position_or_len, before_first, after_first}
 use Rattle.std.specs.Option.{ok_or}
@@ -17,13 +17,13 @@ use Rattle.due_model.specs.declared.event.DowntimeChange.TheVariants.{Start, End
 use Rattle.due_model.specs.declared.event.EventKind.{EventKind}
 use Rattle.due_model.specs.declared.event.EventKind.TheVariants.{Hard, Downtime, Flapping, Ack, AckRemoved, OwnSwitch}
 use Rattle.due_model.specs.declared.state.State.TheVariants.{Up, Down, Unreachable, Fine, Warning, Unknown, Critical}
-use Rattle.event_feed.specs.declared.fault.FeedFault.TheVariants.{BadState}
+use Rattle.event_feed.specs.declared.fault.FeedFault.TheVariants.{BadState, UnknownObject}
 use Rattle.event_feed.specs.declared.line.Subject.{Subject}
 use Rattle.event_feed.specs.declared.line.Subject.TheVariants.{Host, Service}
 use Rattle.event_feed.specs.declared.line.Words.{Words}
 use Rattle.event_feed.specs.declared.line.Words.TheVariants.{States, Downtimes, Flaps, Acks, Switches}
-use Rattle.event_feed.specs.Line.{fields, fields_after, said, said_reading, last_reading, unknown_fault}
-use Rattle.event_feed.proofs.Parts.{slice_split-whole, last_reading-many}
+use Rattle.event_feed.specs.Line.{ack_given, ack_said, all_said, fields, fields_after, said, said_reading, takes_more, told_ack_said, last_reading, unknown_fault}
+use Rattle.event_feed.proofs.Parts.{slice_split-whole}
 
 -- bytes are one field, or a first one and others
 one_or_more : (bytes : List ℕ) → (fields bytes ≡ bytes ∷ []) ⊎ ((first : List ℕ) × (more : List ℕ) × (fields bytes ≡ first ∷ fields more))
@@ -62,9 +62,9 @@ said-field Flaps subject id word =
     or_word word (codes "START") (Flapping id true) _ refl
     (or_word word (codes "STOP") (Flapping id false) None refl tt)
 said-field Acks subject id word =
-    or_word word (codes "STICKY") (Ack id true) _ refl
-    (or_word word (codes "NORMAL") (Ack id false) _ refl
-    (or_word word (codes "NONE") (AckRemoved id) None refl tt))
+    or_word word (codes "NONE") (AckRemoved id) _ refl
+    (or_word word (codes "STICKY") (Ack id (record { sticky = true; notify = false })) _ refl
+    (or_word word (codes "NORMAL") (Ack id (record { sticky = false; notify = false })) None refl tt))
 said-field Switches subject id word =
     or_word word (codes "ON") (OwnSwitch id true) _ refl
     (or_word word (codes "OFF") (OwnSwitch id false) None refl tt)
@@ -76,38 +76,99 @@ no_word word first more (Some kind) one many =
     let clash : length (word ∷ []) ≡ length (first ∷ split.first ∷ split.others) = ap (λ (parts : List (List ℕ)). length parts) (sym one ∙ many ∙ ap (λ (parts : List (List ℕ)). first ∷ parts) split.are) in
     absurd (omega (arith, clash))
 
--- of an object that is known
-known : (objects : List Object) (words : Words) (subject : Subject) (host : List ℕ) (service : Option (List ℕ)) (id : ObjectId) (rest : List ℕ) → object_named objects host service ≡ Some id
-    → ok_or (said words subject id rest) BadState ≡ last_reading objects words subject host service (fields rest)
-known objects words subject host service id rest named =
+-- words that stand alone
+no_more : (words : Words) (subject : Subject) (id : ObjectId) (first second : List ℕ) (others : List (List ℕ)) → takes_more words ≡ false
+    → None ≡ all_said words subject id (first ∷ second ∷ others)
+no_more States subject id first second [] alone = refl
+no_more Downtimes subject id first second [] alone = refl
+no_more Flaps subject id first second [] alone = refl
+no_more Acks subject id first second [] alone = cc
+no_more Switches subject id first second [] alone = refl
+no_more words subject id first second (third ∷ others) alone = refl
+
+pub said-alone : (words : Words) (subject : Subject) (id : ObjectId) (bytes : List ℕ) → takes_more words ≡ false → said words subject id bytes ≡ all_said words subject id (fields bytes)
+said-alone words subject id bytes alone =
     ⊎_elim
-    (λ (one : fields rest ≡ rest ∷ []). sym (ap (λ (parts : List (List ℕ)). last_reading objects words subject host service parts) one
-    ∙ ap (λ (object : Option ObjectId). said_reading words subject object rest) named))
-    (λ (many : (first : List ℕ) × (more : List ℕ) × (fields rest ≡ first ∷ fields more)).
-    ap (λ (kind : Option EventKind). ok_or kind BadState) (no_word rest many.0 many.1 (said words subject id rest) (said-field words subject id rest) many.2)
-    ∙ sym (ap (λ (parts : List (List ℕ)). last_reading objects words subject host service parts) many.2 ∙ last_reading-many objects words subject host service many.0 many.1))
-    (one_or_more rest)
+    (λ (one : fields bytes ≡ bytes ∷ []). sym (ap (λ (parts : List (List ℕ)). all_said words subject id parts) one))
+    (λ (many : (first : List ℕ) × (more : List ℕ) × (fields bytes ≡ first ∷ fields more)).
+    let split = slice_split-first (λ byte. eqb byte 59) many.1 in
+    no_word bytes many.0 many.1 (said words subject id bytes) (said-field words subject id bytes) many.2
+    ∙ no_more words subject id many.0 split.first split.others alone
+    ∙ sym (ap (λ (parts : List (List ℕ)). all_said words subject id parts) (many.2 ∙ ap (λ (parts : List (List ℕ)). many.0 ∷ parts) split.are)))
+    (one_or_more bytes)
+
+-- of an acknowledgement
+told-field : (id : ObjectId) (word more : List ℕ) (given : Option EventKind) → OneField more (cond (bytes_eq more (codes "NOTIFY")) given None)
+told-field id word more None =
+    cond_both (bytes_eq more (codes "NOTIFY")) None None (OneField more) (λ _. tt) (λ _. tt)
+told-field id word more (Some kind) = or_word more (codes "NOTIFY") kind None refl tt
+
+pub acks-alone : (subject : Subject) (id : ObjectId) (word : List ℕ) (parts : List (List ℕ)) → parts ≡ word ∷ [] → ack_said id word ≡ all_said Acks subject id parts
+acks-alone subject id word parts is = sym (ap (λ (parts : List (List ℕ)). all_said Acks subject id parts) is)
+
+acks-more : (subject : Subject) (id : ObjectId) (word more : List ℕ) → told_ack_said id word more ≡ all_said Acks subject id (word ∷ fields more)
+acks-more subject id word more =
+    ⊎_elim
+    (λ (one : fields more ≡ more ∷ []). sym (ap (λ (parts : List (List ℕ)). all_said Acks subject id (word ∷ parts)) one))
+    (λ (many : (first : List ℕ) × (rest : List ℕ) × (fields more ≡ first ∷ fields rest)).
+    let split = slice_split-first (λ byte. eqb byte 59) many.1 in
+    no_word more many.0 many.1 (told_ack_said id word more) (told-field id word more (ack_given id true word)) many.2
+    ∙ sym (ap (λ (parts : List (List ℕ)). all_said Acks subject id (word ∷ parts)) (many.2 ∙ ap (λ (parts : List (List ℕ)). many.0 ∷ parts) split.are)))
+    (one_or_more more)
+
+pub acks-told : (subject : Subject) (id : ObjectId) (word more : List ℕ) (parts : List (List ℕ)) → parts ≡ word ∷ fields more → told_ack_said id word more ≡ all_said Acks subject id parts
+acks-told subject id word more parts is = acks-more subject id word more ∙ sym (ap (λ (parts : List (List ℕ)). all_said Acks subject id parts) is)
+
+-- of an object that is known
+known : (objects : List Object) (words : Words) (subject : Subject) (host : List ℕ) (service : Option (List ℕ)) (id : ObjectId) (parts : List (List ℕ)) → object_named objects host service ≡ Some id
+    → ok_or (all_said words subject id parts) BadState ≡ last_reading objects words subject host service parts
+known objects words subject host service id [] named = refl
+known objects words subject host service id (word ∷ []) named = sym (ap (λ (object : Option ObjectId). said_reading words subject object (word ∷ [])) named)
+known objects States subject host service id (word ∷ more ∷ []) named = refl
+known objects Downtimes subject host service id (word ∷ more ∷ []) named = refl
+known objects Flaps subject host service id (word ∷ more ∷ []) named = refl
+known objects Acks subject host service id (word ∷ more ∷ []) named = sym (ap (λ (object : Option ObjectId). said_reading Acks subject object (word ∷ more ∷ [])) named)
+known objects Switches subject host service id (word ∷ more ∷ []) named = refl
+known objects words subject host service id (word ∷ more ∷ another ∷ others) named = refl
 
 pub last-known : (objects : List Object) (words : Words) (subject : Subject) (host : List ℕ) (service arguments : Option (List ℕ)) (id : ObjectId) (rest : List ℕ)
-    → object_named objects host service ≡ Some id → arguments ≡ Some rest → ok_or (said words subject id rest) BadState ≡ last_reading objects words subject host service (fields_after arguments)
+    → object_named objects host service ≡ Some id → arguments ≡ Some rest
+    → ok_or (all_said words subject id (fields rest)) BadState ≡ last_reading objects words subject host service (fields_after arguments)
 last-known objects words subject host service arguments id rest named is =
-    known objects words subject host service id rest named ∙ sym (ap (λ (after : Option (List ℕ)). last_reading objects words subject host service (fields_after after)) is)
+    known objects words subject host service id (fields rest) named ∙ sym (ap (λ (after : Option (List ℕ)). last_reading objects words subject host service (fields_after after)) is)
 
 -- of one that isn't
 unknown : (objects : List Object) (words : Words) (subject : Subject) (host : List ℕ) (service : Option (List ℕ)) (parts : List (List ℕ)) → object_named objects host service ≡ None
-    → Err (unknown_fault parts) ≡ last_reading objects words subject host service parts
+    → Err (unknown_fault words parts) ≡ last_reading objects words subject host service parts
 unknown objects words subject host service [] named = refl
-unknown objects words subject host service (word ∷ []) named = sym (ap (λ (object : Option ObjectId). said_reading words subject object word) named)
-unknown objects words subject host service (word ∷ more ∷ parts) named = refl
+unknown objects words subject host service (word ∷ []) named = sym (ap (λ (object : Option ObjectId). said_reading words subject object (word ∷ [])) named)
+unknown objects States subject host service (word ∷ more ∷ []) named = refl
+unknown objects Downtimes subject host service (word ∷ more ∷ []) named = refl
+unknown objects Flaps subject host service (word ∷ more ∷ []) named = refl
+unknown objects Acks subject host service (word ∷ more ∷ []) named = sym (ap (λ (object : Option ObjectId). said_reading Acks subject object (word ∷ more ∷ [])) named)
+unknown objects Switches subject host service (word ∷ more ∷ []) named = refl
+unknown objects words subject host service (word ∷ more ∷ another ∷ others) named = refl
 
 pub last-unknown : (objects : List Object) (words : Words) (subject : Subject) (host : List ℕ) (service arguments : Option (List ℕ)) (rest : List ℕ)
-    → object_named objects host service ≡ None → arguments ≡ Some rest → Err (unknown_fault (fields rest)) ≡ last_reading objects words subject host service (fields_after arguments)
+    → object_named objects host service ≡ None → arguments ≡ Some rest → Err (unknown_fault words (fields rest)) ≡ last_reading objects words subject host service (fields_after arguments)
 last-unknown objects words subject host service arguments rest named is =
     unknown objects words subject host service (fields rest) named ∙ sym (ap (λ (after : Option (List ℕ)). last_reading objects words subject host service (fields_after after)) is)
 
--- why an argument too many is told first
-pub unknown_many : (bytes word more : List ℕ) (after : Option (List ℕ)) → fields bytes ≡ word ∷ fields_after after → after ≡ Some more → BadState ≡ unknown_fault (fields bytes)
-unknown_many bytes word more after first is =
+-- why it is refused
+pub unknown-parts : (words : Words) (parts others : List (List ℕ)) → parts ≡ others → unknown_fault words others ≡ unknown_fault words parts
+unknown-parts words parts others is = sym (ap (unknown_fault words) is)
+
+pub unknown-many : (words : Words) (word more : List ℕ) (first : List ℕ) (rest : List ℕ) → fields more ≡ first ∷ fields rest → BadState ≡ unknown_fault words (word ∷ fields more)
+unknown-many words word more first rest is =
+    let split = slice_split-first (λ byte. eqb byte 59) rest in
+    sym (ap (λ (parts : List (List ℕ)). unknown_fault words (word ∷ parts)) (is ∙ ap (λ (parts : List (List ℕ)). first ∷ parts) split.are))
+
+-- of two words, but of acknowledgements
+pub unknown-two : (words : Words) (word more : List ℕ) → takes_more words ≡ false → BadState ≡ unknown_fault words (word ∷ fields more)
+unknown-two words word more alone =
     let split = slice_split-first (λ byte. eqb byte 59) more in
-    let parts : fields bytes ≡ word ∷ split.first ∷ split.others = first ∙ ap (λ (rest : Option (List ℕ)). word ∷ fields_after rest) is ∙ ap (λ (rest : List (List ℕ)). word ∷ rest) split.are in
-    sym (ap unknown_fault parts)
+    by_words words split.others alone ∙ sym (ap (λ (parts : List (List ℕ)). unknown_fault words (word ∷ parts)) split.are)
+  where
+    by_words : (words : Words) {first : List ℕ} (others : List (List ℕ)) → takes_more words ≡ false → BadState ≡ unknown_fault words (word ∷ first ∷ others)
+    by_words words [] alone = ap (λ (b : Bool). if b then UnknownObject else BadState) (sym alone)
+    by_words words (third ∷ others) alone = refl

@@ -118,13 +118,23 @@ flapping_said object word =
     else if bytes_eq word (codes "STOP") then Some (Flapping object false)
     else None
 
--- that the problem is acknowledged, and how long that lasts, or isn't any more (chapter "External Commands")
+-- that the problem is acknowledged, and how long that lasts, where contacts are to be notified of it or not (chapter
+-- "External Commands")
+abbrev pub ack_given : ObjectId → (notify : Bool) → List ℕ → Option EventKind
+ack_given object notify word =
+    if bytes_eq word (codes "STICKY") then Some (Ack object (record { sticky = true; notify = notify }))
+    else if bytes_eq word (codes "NORMAL") then Some (Ack object (record { sticky = false; notify = notify }))
+    else None
+
+-- that it is acknowledged, or isn't any more
 abbrev pub ack_said : ObjectId → List ℕ → Option EventKind
 ack_said object word =
-    if bytes_eq word (codes "STICKY") then Some (Ack object true)
-    else if bytes_eq word (codes "NORMAL") then Some (Ack object false)
-    else if bytes_eq word (codes "NONE") then Some (AckRemoved object)
-    else None
+    if bytes_eq word (codes "NONE") then Some (AckRemoved object) else ack_given object false word
+
+-- that it is acknowledged, and that contacts are to be notified of that
+abbrev pub told_ack_said : ObjectId → (word more : List ℕ) → Option EventKind
+told_ack_said object word more =
+    if bytes_eq more (codes "NOTIFY") then ack_given object true word else None
 
 -- that the object's notifications are switched on or off (chapter "External Commands")
 abbrev pub own_switch_said : ObjectId → List ℕ → Option EventKind
@@ -142,24 +152,54 @@ said Flaps subject object word = flapping_said object word
 said Acks subject object word = ack_said object word
 said Switches subject object word = own_switch_said object word
 
+-- what another word says behind it
+abbrev pub said_more : Words → ObjectId → (word more : List ℕ) → Option EventKind
+said_more States object word more = None
+said_more Downtimes object word more = None
+said_more Flaps object word more = None
+said_more Acks object word more = told_ack_said object word more
+said_more Switches object word more = None
+
+-- whether another word may stand there: behind an acknowledgement's alone
+abbrev pub takes_more : Words → Bool
+takes_more States = false
+takes_more Downtimes = false
+takes_more Flaps = false
+takes_more Acks = true
+takes_more Switches = false
+
+-- what all words say of such an object
+abbrev pub all_said : Words → Subject → ObjectId → List (List ℕ) → Option EventKind
+all_said words subject object [] = None
+all_said words subject object (word ∷ []) = said words subject object word
+all_said words subject object (word ∷ more ∷ []) = said_more words object word more
+all_said words subject object (word ∷ more ∷ another ∷ others) = None
+
 -- ---- the arguments
 
--- a word about an object: first the object must be known, then the word
-abbrev pub said_reading : Words → Subject → Option ObjectId → List ℕ → Result EventKind FeedFault
-said_reading words subject None word = Err UnknownObject
-said_reading words subject (Some object) word = ok_or (said words subject object word) BadState
+-- words about an object: first the object must be known, then the words
+abbrev pub said_reading : Words → Subject → Option ObjectId → List (List ℕ) → Result EventKind FeedFault
+said_reading words subject None arguments = Err UnknownObject
+said_reading words subject (Some object) arguments = ok_or (all_said words subject object arguments) BadState
 
--- what follows the name of an object: a word, and nothing more
+-- whether so many words may follow the name of an object: one, and of an acknowledgement two
+abbrev pub are_so_many : Words → List (List ℕ) → Bool
+are_so_many words [] = false
+are_so_many words (word ∷ []) = true
+are_so_many words (word ∷ more ∷ []) = takes_more words
+are_so_many words (word ∷ more ∷ another ∷ others) = false
+
+-- what follows the name of an object: words, and nothing more
 abbrev pub last_reading : List Object → Words → Subject → (host : List ℕ)
     → (service : Option (List ℕ)) → List (List ℕ) → Result EventKind FeedFault
-last_reading objects words subject host service (word ∷ []) =
-    said_reading words subject (object_named objects host service) word
-last_reading objects words subject host service arguments = Err BadState
+last_reading objects words subject host service arguments =
+    if are_so_many words arguments
+    then said_reading words subject (object_named objects host service) arguments
+    else Err BadState
 
 -- why an object that isn't known is refused, given what follows its name
-abbrev pub unknown_fault : List (List ℕ) → FeedFault
-unknown_fault (word ∷ []) = UnknownObject
-unknown_fault arguments = BadState
+abbrev pub unknown_fault : Words → List (List ℕ) → FeedFault
+unknown_fault words arguments = if are_so_many words arguments then UnknownObject else BadState
 
 -- what follows the name of a service's host: the service's description, and then a word
 abbrev pub service_reading : List Object → Words → (host : List ℕ) → List (List ℕ)

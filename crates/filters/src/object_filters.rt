@@ -5,9 +5,9 @@ ghost use Rattle.std.specs.Prelude.{nat_lt, IfSome};
 ghost use Rattle.std.specs.Result.{result_err};
 ghost use Rattle.due_model.specs.declared.config.Config.{Config};
 ghost use Rattle.due_model.specs.Limits.{last_moment, max_number};
-ghost use Rattle.due_model.specs.Rules.{failing_by, first_failing, in_daemons_order};
+ghost use Rattle.due_model.specs.Rules.{asks_options, failing_by, first_failing, has_letter, in_daemons_order};
 ghost use Rattle.due_model.specs.Rules.{in_own_order, is_too_soon, letter_of};
-ghost use Rattle.due_model.specs.Rules.{is_problem, is_recovery, is_of_downtime, is_of_problem};
+ghost use Rattle.due_model.specs.Rules.{is_problem, is_recovery, is_told_in_downtime, is_of_problem};
 ghost use Rattle.time_period.specs.Days.{AreCompiled};
 ghost use Rattle.filters.specs.Attempt.{IsLastInRange, plain};
 
@@ -52,7 +52,7 @@ fn verdict_in_own_order(view: View, attempt: &Attempt<'_>) -> Result<(), Filter>
     stop_if(is_disabled(view), Filter::Disabled)?;
     stop_if(is_down(view, kind), Filter::Downtime)?;
     stop_if(is_flapping(view, kind), Filter::Flapping)?;
-    stop_if(attempt.lacks_letter(view.options), Filter::Options)?;
+    stop_if(lacks_letter(view, attempt), Filter::Options)?;
     stop_if(is_without_problem(view, kind), Filter::NoProblem)?;
     stop_if(attempt.is_outside(view.period), Filter::Period)?;
     stop_if(depends(view, kind), Filter::Dependency)?;
@@ -78,7 +78,7 @@ fn verdict_in_daemons_order(view: View, attempt: &Attempt<'_>) -> Result<(), Fil
     stop_if(is_disabled(view), Filter::Disabled)?;
     stop_if(is_acknowledged(view, attempt.kind), Filter::Acknowledged)?;
     stop_if(depends(view, attempt.kind), Filter::Dependency)?;
-    stop_if(attempt.lacks_letter(view.options), Filter::Options)?;
+    stop_if(lacks_letter(view, attempt), Filter::Options)?;
     stop_if(is_without_problem(view, attempt.kind), Filter::NoProblem)?;
     stop_if(is_within_delay(view, attempt), Filter::FirstDelay)?;
     stop_if(is_flapping(view, attempt.kind), Filter::Flapping)?;
@@ -101,11 +101,18 @@ fn is_disabled(view: View) -> bool
     !view.enabled
 }
 
-/// The object, or a service's host, is in downtime. Downtimes themselves are told.
+/// The object, or a service's host, is in downtime. Downtimes themselves are told, and acknowledgements.
 fn is_down(view: View, kind: Kind) -> bool
-    ensures { result ≡ (not (is_of_downtime kind) && view.down) }
+    ensures { result ≡ (not (is_told_in_downtime kind) && view.down) }
 {
-    !kind.is_of_downtime() && view.down
+    !kind.is_told_in_downtime() && view.down
+}
+
+/// The letter isn't among the object's options. Of an acknowledgement that isn't asked.
+fn lacks_letter(view: View, attempt: &Attempt<'_>) -> bool
+    ensures { result ≡ (asks_options attempt.now.kind && not (has_letter view.options attempt.now.letter)) }
+{
+    attempt.kind.asks_options() && attempt.lacks_letter(view.options)
 }
 
 /// The object is flapping, and this is about a problem.

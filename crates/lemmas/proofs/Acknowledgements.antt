@@ -94,7 +94,7 @@ none_kept o (Hard p s) old is = by_test (p.0 == o)
     by_test false = refl
 none_kept o (Downtime p change) old is = refl
 none_kept o (Flapping p starts) old is = refl
-none_kept o (Ack p sticky) old is = is
+none_kept o (Ack p ack) old is = is
 none_kept o (AckRemoved p) old is = by_test (p.0 == o)
   where
     by_test : (mine : Bool) → (if mine then None else None) ≡ (let none : Option Bool = None in none)
@@ -112,8 +112,8 @@ goes_on o m (Downtime p change) past sticky s none same = ap (λ (b : Bool). if 
 goes_on o m (Flapping p starts) past sticky s none same = ap (λ (b : Bool). if b then Some sticky else None) same
 goes_on o m (Ack p new) past sticky s none same = by_test (p.0 == o && is_problem_state (hard o past)) none
   where
-    by_test : (acks : Bool) → (if acks then Some new else None) ≡ None
-        → (if (sticky || same_state (hard o past) s) then Some sticky else None) ≡ (if acks then Some new else Some sticky)
+    by_test : (acks : Bool) → (if acks then Some new.sticky else None) ≡ None
+        → (if (sticky || same_state (hard o past) s) then Some sticky else None) ≡ (if acks then Some new.sticky else Some sticky)
     by_test true h = cc
     by_test false h = ap (λ (b : Bool). if b then Some sticky else None) same
 goes_on o m (AckRemoved p) past sticky s none same = by_test (p.0 == o)
@@ -160,7 +160,7 @@ acks_state o (Program on) old a is = is
 acks_state o (Hard p s) old a is = is
 acks_state o (Downtime p change) old a is = is
 acks_state o (Flapping p starts) old a is = is
-acks_state o (Ack p sticky) old a is = is
+acks_state o (Ack p ack) old a is = is
 acks_state o (AckRemoved p) old a is = is
 acks_state o (OwnSwitch p on) old a is = is
 
@@ -172,7 +172,7 @@ acked_after o (Downtime p change) old kept sticky is = cc
 acked_after o (Flapping p starts) old kept sticky is = cc
 acked_after o (Ack p new) old kept sticky is = by_test (p.0 == o && is_problem_state old) is
   where
-    by_test : (acks : Bool) → (if acks then Some new else None) ≡ Some sticky → Some sticky ≡ (if acks then Some new else kept)
+    by_test : (acks : Bool) → (if acks then Some new.sticky else None) ≡ Some sticky → Some sticky ≡ (if acks then Some new.sticky else kept)
     by_test true h = sym h
     by_test false h = cc
 acked_after o (AckRemoved p) old kept sticky is = cc

@@ -42,6 +42,7 @@ receivers_of_increase c zone o object kind.FlappingStop s m number standing = ot
 receivers_of_increase c zone o object kind.DowntimeStart s m number standing = others_increase c zone o object (record { kind = kind.DowntimeStart; state = s; moment = m }) standing
 receivers_of_increase c zone o object kind.DowntimeEnd s m number standing = others_increase c zone o object (record { kind = kind.DowntimeEnd; state = s; moment = m }) standing
 receivers_of_increase c zone o object kind.DowntimeCancelled s m number standing = others_increase c zone o object (record { kind = kind.DowntimeCancelled; state = s; moment = m }) standing
+receivers_of_increase c zone o object kind.Acknowledgement s m number standing = others_increase c zone o object (record { kind = kind.Acknowledgement; state = s; moment = m }) standing
 
 pub receivers_increase : (c : Config) (zone : Zone) (o : ℕ) (object : Object) (a : Attempt) (number standing : ℕ) → AllPairs (λ x y. x < y) (receivers c zone o object a number standing)
 receivers_increase c zone o object a number standing = receivers_of_increase c zone o object a.kind a.state a.moment number standing

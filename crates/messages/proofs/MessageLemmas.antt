@@ -234,6 +234,7 @@ module _ (c : Config) (zone : Zone) (o : ℕ) (settings : Object) (number standi
   of_kind kind.DowntimeStart s t = of_others (record { kind = kind.DowntimeStart; state = s; moment = t })
   of_kind kind.DowntimeEnd s t = of_others (record { kind = kind.DowntimeEnd; state = s; moment = t })
   of_kind kind.DowntimeCancelled s t = of_others (record { kind = kind.DowntimeCancelled; state = s; moment = t })
+  of_kind kind.Acknowledgement s t = of_others (record { kind = kind.Acknowledgement; state = s; moment = t })
 
 pub receivers_within : (c : Config) (zone : Zone) (m : Message) (told : List ContactId) → m.object.0 < length c.objects
     → ((settings : Object) → slice_get c.objects m.object.0 ≡ Some settings → told ≡ contact_ids (receivers c zone m.object.0 settings (plain m.attempt) m.number m.standing))

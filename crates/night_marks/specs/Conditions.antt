@@ -21,7 +21,7 @@ event_object (Program on) = None
 event_object (Hard o state) = Some o
 event_object (Downtime o change) = Some o
 event_object (Flapping o starts) = Some o
-event_object (Ack o sticky) = Some o
+event_object (Ack o ack) = Some o
 event_object (AckRemoved o) = Some o
 event_object (OwnSwitch o on) = Some o
 
@@ -36,7 +36,7 @@ depth_on (Program on) depth = depth
 depth_on (Hard o state) depth = depth
 depth_on (Downtime o change) depth = depth_after change depth
 depth_on (Flapping o starts) depth = depth
-depth_on (Ack o sticky) depth = depth
+depth_on (Ack o ack) depth = depth
 depth_on (AckRemoved o) depth = depth
 depth_on (OwnSwitch o on) depth = depth
 

@@ -25,6 +25,7 @@ kind_name kind.FlappingStop = codes "FLAPPINGSTOP"
 kind_name kind.DowntimeStart = codes "DOWNTIMESTART"
 kind_name kind.DowntimeEnd = codes "DOWNTIMEEND"
 kind_name kind.DowntimeCancelled = codes "DOWNTIMECANCELLED"
+kind_name kind.Acknowledgement = codes "ACKNOWLEDGEMENT"
 
 abbrev pub filter_name : Filter → List ℕ
 filter_name filter.Program = codes "Program"

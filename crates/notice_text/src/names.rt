@@ -34,6 +34,7 @@ pub fn kind_name(kind: Kind) -> &'static str
         Kind::DowntimeStart => "DOWNTIMESTART",
         Kind::DowntimeEnd => "DOWNTIMEEND",
         Kind::DowntimeCancelled => "DOWNTIMECANCELLED",
+        Kind::Acknowledgement => "ACKNOWLEDGEMENT",
     }
 }
 

@@ -66,7 +66,7 @@ removal_state o (event.Program on) old is = refl
 removal_state o (event.Hard p s) old is = cc
 removal_state o (event.Downtime p change) old is = refl
 removal_state o (event.Flapping p starts) old is = refl
-removal_state o (event.Ack p sticky) old is = refl
+removal_state o (event.Ack p ack) old is = refl
 removal_state o (event.AckRemoved p) old is = refl
 removal_state o (event.OwnSwitch p on) old is = refl
 
@@ -141,6 +141,7 @@ is_the_problem kind.FlappingStop h = cc
 is_the_problem kind.DowntimeStart h = cc
 is_the_problem kind.DowntimeEnd h = cc
 is_the_problem kind.DowntimeCancelled h = cc
+is_the_problem kind.Acknowledgement h = cc
 
 -- a problem that is tried runs
 tried_by : (o : ℕ) (found : Found) (due : Option ℕ) (k : Kind) (r p : Bool) (first : Option Kind) → ProblemsRun

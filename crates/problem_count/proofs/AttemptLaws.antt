@@ -66,7 +66,7 @@ attempts_problem o (event.Hard p s) old due t h =
     problem_by (p.0 == o) (is_problem_state s) (if is_ok_state s && is_problem_state old.state then Some kind.Recovery else None) h
 attempts_problem o (event.Downtime p change) old due t h = cc
 attempts_problem o (event.Flapping p starts) old due t h = cc
-attempts_problem o (event.Ack p sticky) old due t h = cc
+attempts_problem o (event.Ack p ack) old due t h = cc
 attempts_problem o (event.AckRemoved p) old due t h = cc
 attempts_problem o (event.OwnSwitch p on) old due t h = cc
 
@@ -131,7 +131,7 @@ attempted_by_due c o (event.Program on) old due t = refl
 attempted_by_due c o (event.Hard p s) old due t = refl
 attempted_by_due c o (event.Downtime p change) old due t = refl
 attempted_by_due c o (event.Flapping p starts) old due t = refl
-attempted_by_due c o (event.Ack p sticky) old due t = refl
+attempted_by_due c o (event.Ack p ack) old due t = refl
 attempted_by_due c o (event.AckRemoved p) old due t = refl
 attempted_by_due c o (event.OwnSwitch p on) old due t = refl
 
@@ -196,6 +196,12 @@ no_flapping true false true = refl
 no_flapping true false false = refl
 no_flapping false was starts = refl
 
+no_ack : (b p n : Bool) → is_problem_kind (if b then (if p && n then Some kind.Acknowledgement else None) else None) ≡ false
+no_ack true true true = refl
+no_ack true true false = refl
+no_ack true false n = refl
+no_ack false p n = refl
+
 not_problem : (attempt : Option Kind) → is_problem_kind attempt ≡ false → attempt ≡ Problem → ⊥
 not_problem attempt none h = let one : is_problem_kind attempt ≡ true = ap is_problem_kind h in cc
 
@@ -207,7 +213,8 @@ runs_by o (event.Downtime p change) old due t h =
     absurd (not_problem (attempted o (event.Downtime p change) old due t) (no_downtime (p.0 == o) (nat_lt 0 old.depth) (nat_lt 0 (depth_changed change old.depth)) (downtime_kind change) (no_problem_kind change)) h)
 runs_by o (event.Flapping p starts) old due t h =
     absurd (not_problem (attempted o (event.Flapping p starts) old due t) (no_flapping (p.0 == o) old.flapping starts) h)
-runs_by o (event.Ack p sticky) old due t h = cc
+runs_by o (event.Ack p ack) old due t h =
+    absurd (not_problem (attempted o (event.Ack p ack) old due t) (no_ack (p.0 == o) (is_problem_state old.state) ack.notify) h)
 runs_by o (event.AckRemoved p) old due t h = cc
 runs_by o (event.OwnSwitch p on) old due t h = cc
 
@@ -228,7 +235,7 @@ repeats_run c o (event.Hard p s) past h runs =
     repeat_runs c.choices.host_repeats (is_service_of c p.0 o) (is_problem_state s) (same_state s (hard p.0 past)) (p.0 == o) true s (hard o past) refl h runs
 repeats_run c o (event.Downtime p change) past h runs = runs
 repeats_run c o (event.Flapping p starts) past h runs = runs
-repeats_run c o (event.Ack p sticky) past h runs = runs
+repeats_run c o (event.Ack p ack) past h runs = runs
 repeats_run c o (event.AckRemoved p) past h runs = runs
 repeats_run c o (event.OwnSwitch p on) past h runs = runs
 

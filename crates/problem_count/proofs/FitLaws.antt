@@ -21,7 +21,7 @@ use Rattle.due_model.specs.Changes.{delayed}
 use Rattle.due_model.specs.declared.config.Choices.{Choices}
 use Rattle.due_model.specs.declared.notice.Reach.{Reach}
 use Rattle.due_model.specs.declared.options.OptionLetters.{OptionLetters}
-use Rattle.due_model.specs.Rules.{attempted, attempted_by_downtime, attempted_by_flapping, attempted_by_state, has_come, is_problem, next_notice, no_letter, same_state, state_letter, state_number, with_letter}
+use Rattle.due_model.specs.Rules.{attempted, attempted_by_ack, attempted_by_downtime, attempted_by_flapping, attempted_by_state, has_come, is_problem, next_notice, no_letter, same_state, state_letter, state_number, with_letter}
 use Rattle.due_model.specs.Histories.{down_with_host, host_holds, lapses, outcome_of, repeats, status_after, waits_a_while, with_repeat, hist, notice_of, notices_sent, last_notice, ready, ready_or, released_by, retry_after, timed, told_letters}
 use Rattle.due_model.specs.Acknowledgements.{acked, takes_back}
 use Rattle.problem_count.specs.Book.{BookValues, after_hard, after_release, after_sent, new_book, retry_by}
@@ -125,7 +125,7 @@ module _ (c : Config) (zone : Zone) (o : ℕ) (object : Object) (m : ℕ) (past 
       sym (ap (within_hard c zone object s (hard o past) (max (moment past) m) (delayed c o past) (released_after c zone o object past) (problem c zone o object past) (ended_after c zone o object past)) h)
   kept_by_kind (event.Downtime p change) h back = refl
   kept_by_kind (event.Flapping p starts) h back = refl
-  kept_by_kind (event.Ack p sticky) h back = refl
+  kept_by_kind (event.Ack p ack) h back = refl
   kept_by_kind (event.AckRemoved p) h back = sym (ap from back)
   kept_by_kind (event.OwnSwitch p on) h back = refl
 
@@ -135,7 +135,7 @@ module _ (c : Config) (zone : Zone) (o : ℕ) (object : Object) (m : ℕ) (past 
   freed_by_kind (event.Hard p s) back = cc
   freed_by_kind (event.Downtime p change) back = cc
   freed_by_kind (event.Flapping p starts) back = cc
-  freed_by_kind (event.Ack p sticky) back = cc
+  freed_by_kind (event.Ack p ack) back = cc
   freed_by_kind (event.AckRemoved p) back = sym (ap from back)
   freed_by_kind (event.OwnSwitch p on) back = cc
 
@@ -189,6 +189,7 @@ other_sent c zone object s began released outcomes ended kind.FlappingStop now n
 other_sent c zone object s began released outcomes ended kind.DowntimeStart now number t gap reach h = refl
 other_sent c zone object s began released outcomes ended kind.DowntimeEnd now number t gap reach h = refl
 other_sent c zone object s began released outcomes ended kind.DowntimeCancelled now number t gap reach h = refl
+other_sent c zone object s began released outcomes ended kind.Acknowledgement now number t gap reach h = refl
 
 other_suppressed : (c : Config) (zone : Zone) (object : Object) (s : State) (began : ℕ) (released : Option ℕ) (outcomes : List Outcome) (ended : Bool) (k : Kind) (now : State) (number t : ℕ) (why : Filter) → is_problem k ≡ false
     → book_by c zone object s began released outcomes ended ≡ book_by c zone object s began released (Suppressed k now number t why ∷ outcomes) ended
@@ -199,6 +200,7 @@ other_suppressed c zone object s began released outcomes ended kind.FlappingStop
 other_suppressed c zone object s began released outcomes ended kind.DowntimeStart now number t why h = refl
 other_suppressed c zone object s began released outcomes ended kind.DowntimeEnd now number t why h = refl
 other_suppressed c zone object s began released outcomes ended kind.DowntimeCancelled now number t why h = refl
+other_suppressed c zone object s began released outcomes ended kind.Acknowledgement now number t why h = refl
 
 other_outcome : (c : Config) (zone : Zone) (object : Object) (s : State) (began : ℕ) (released : Option ℕ) (outcomes : List Outcome) (ended : Bool) (x : Outcome) → is_of_problem_attempt x ≡ false
     → book_by c zone object s began released outcomes ended ≡ book_by c zone object s began released (x ∷ outcomes) (not (is_some (notice_of x)) && ended)
@@ -258,7 +260,7 @@ untouched_hard o (event.Program on) due t h = refl
 untouched_hard o (event.Hard p s) due t h = h
 untouched_hard o (event.Downtime p change) due t h = refl
 untouched_hard o (event.Flapping p starts) due t h = refl
-untouched_hard o (event.Ack p sticky) due t h = refl
+untouched_hard o (event.Ack p ack) due t h = refl
 untouched_hard o (event.AckRemoved p) due t h = refl
 untouched_hard o (event.OwnSwitch p on) due t h = refl
 
@@ -268,7 +270,7 @@ untouched_back o m (event.Program on) past due t h = refl
 untouched_back o m (event.Hard p s) past due t h = refl
 untouched_back o m (event.Downtime p change) past due t h = refl
 untouched_back o m (event.Flapping p starts) past due t h = refl
-untouched_back o m (event.Ack p sticky) past due t h = refl
+untouched_back o m (event.Ack p ack) past due t h = refl
 untouched_back o m (event.AckRemoved p) past due t h = ap (λ (b : Bool). b && acked o past) h
 untouched_back o m (event.OwnSwitch p on) past due t h = refl
 
@@ -282,7 +284,7 @@ untouched_attempt c o (event.Program on) old due t h = refl
 untouched_attempt c o (event.Hard p s) old due t h = ap (λ (b : Bool). if b then attempted_by_state old.state s else None) h
 untouched_attempt c o (event.Downtime p change) old due t h = ap (λ (b : Bool). if b then attempted_by_downtime old.depth change else None) h
 untouched_attempt c o (event.Flapping p starts) old due t h = ap (λ (b : Bool). if b then attempted_by_flapping old.flapping starts else None) h
-untouched_attempt c o (event.Ack p sticky) old due t h = refl
+untouched_attempt c o (event.Ack p ack) old due t h = ap (λ (b : Bool). if b then attempted_by_ack old.state ack else None) h
 untouched_attempt c o (event.AckRemoved p) old due t h = refl
 untouched_attempt c o (event.OwnSwitch p on) old due t h = refl
 

@@ -44,7 +44,7 @@ touches o (Program on) due t = false
 touches o (Hard p s) due t = p.0 == o
 touches o (Downtime p change) due t = p.0 == o
 touches o (Flapping p starts) due t = p.0 == o
-touches o (Ack p sticky) due t = p.0 == o
+touches o (Ack p ack) due t = p.0 == o
 touches o (AckRemoved p) due t = p.0 == o
 touches o (OwnSwitch p on) due t = p.0 == o
 

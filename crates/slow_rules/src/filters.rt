@@ -77,11 +77,11 @@ fn failing_in_own_order(
         Ok(Some(Filter::Program))
     } else if !view.enabled {
         Ok(Some(Filter::Disabled))
-    } else if !kind.is_of_downtime() && view.down {
+    } else if !kind.is_told_in_downtime() && view.down {
         Ok(Some(Filter::Downtime))
     } else if kind.is_of_problem() && view.flapping {
         Ok(Some(Filter::Flapping))
-    } else if !view.options.contains(kind.letter(attempt.state)) {
+    } else if kind.asks_options() && !view.options.contains(kind.letter(attempt.state)) {
         Ok(Some(Filter::Options))
     } else if kind.is_recovery() && view.sent == 0 {
         Ok(Some(Filter::NoProblem))
@@ -138,7 +138,7 @@ fn failing_in_daemons_order(
         Ok(Some(Filter::Acknowledged))
     } else if kind.is_of_problem() && view.depends {
         Ok(Some(Filter::Dependency))
-    } else if !view.options.contains(kind.letter(attempt.state)) {
+    } else if kind.asks_options() && !view.options.contains(kind.letter(attempt.state)) {
         Ok(Some(Filter::Options))
     } else if kind.is_recovery() && view.sent == 0 {
         Ok(Some(Filter::NoProblem))
@@ -146,7 +146,7 @@ fn failing_in_daemons_order(
         Ok(Some(Filter::FirstDelay))
     } else if kind.is_of_problem() && view.flapping {
         Ok(Some(Filter::Flapping))
-    } else if !kind.is_of_downtime() && view.down {
+    } else if !kind.is_told_in_downtime() && view.down {
         Ok(Some(Filter::Downtime))
     } else if is_within_gap(view, attempt) {
         Ok(Some(Filter::Interval))

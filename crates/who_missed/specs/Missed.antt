@@ -63,6 +63,7 @@ counts kind.FlappingStop first number = false
 counts kind.DowntimeStart first number = false
 counts kind.DowntimeEnd first number = false
 counts kind.DowntimeCancelled first number = false
+counts kind.Acknowledgement first number = false
 
 -- it is of such a notice that passed the filters of the object
 abbrev pub comes_to : (first : ℕ) → ReportLine → Bool

@@ -120,7 +120,7 @@ KindIsProper-prop c (Hard o state) =
     (λ object. IsTrue (is_state_of (is_some object.host) state)) (hlevel props)
 KindIsProper-prop c (Downtime o change) = hlevel props
 KindIsProper-prop c (Flapping o starts) = hlevel props
-KindIsProper-prop c (Ack o sticky) = hlevel props
+KindIsProper-prop c (Ack o ack) = hlevel props
 KindIsProper-prop c (AckRemoved o) = hlevel props
 KindIsProper-prop c (OwnSwitch o on) = hlevel props
 

@@ -39,6 +39,10 @@ pub returns-clause-taken_back : goal.returns-clause-taken_back
 unfolding hist
 returns-clause-taken_back c = record { due = refl; suppressed = refl }
 
+pub returns-clause-told_of_acknowledgements : goal.returns-clause-told_of_acknowledgements
+unfolding hist
+returns-clause-told_of_acknowledgements c = record { due = refl; suppressed = refl }
+
 pub returns-clause-switched_off : goal.returns-clause-switched_off
 unfolding hist
 returns-clause-switched_off c = record { due = refl; suppressed = refl }
