@@ -43,6 +43,7 @@ impl Numbers {
             at_results: self.bit(),
             order: self.bit(),
             contact_none: self.bit(),
+            text: self.bit(),
         }
     }
 }

@@ -4,7 +4,7 @@ use Rattle.std.specs.Str.{bytes_eq}
 use Rattle.due_model.specs.declared.config.Choices.{Choices}
 use Rattle.due_model.specs.Choices.{nagios, own}
 use Rattle.choice_words.specs.declared.field.Field.{Field}
-use Rattle.choice_words.specs.declared.field.Field.TheVariants.{HostDown, HostRepeats, HostDep, Nobody, Told, ResetWait, Delay, DepPending, PeriodWait, DowntimeWait, EscOther, AtResults, Order, ContactNone}
+use Rattle.choice_words.specs.declared.field.Field.TheVariants.{HostDown, HostRepeats, HostDep, Nobody, Told, ResetWait, Delay, DepPending, PeriodWait, DowntimeWait, EscOther, AtResults, Order, ContactNone, Text}
 use Rattle.choice_words.specs.declared.word.ChoiceWord.{ChoiceWord}
 
 -- the choices with the daemon's rule in a field, or this project's
@@ -23,6 +23,7 @@ with_field choices EscOther daemons = record choices { esc_other = daemons }
 with_field choices AtResults daemons = record choices { at_results = daemons }
 with_field choices Order daemons = record choices { order = daemons }
 with_field choices ContactNone daemons = record choices { contact_none = daemons }
+with_field choices Text daemons = record choices { text = daemons }
 
 -- a field, and whose rule decides in it
 abbrev pub so : Field → (daemons : Bool) → Option ChoiceWord
@@ -59,6 +60,8 @@ said word =
     else if bytes_eq word (codes "order=nagios") then so Order true
     else if bytes_eq word (codes "contact_none=own") then so ContactNone false
     else if bytes_eq word (codes "contact_none=nagios") then so ContactNone true
+    else if bytes_eq word (codes "text=own") then so Text false
+    else if bytes_eq word (codes "text=nagios") then so Text true
     else None
 
 -- the choices after words, one after another; none, where one says nothing
@@ -69,6 +72,6 @@ chosen choices (word ∷ words) = elim (said word) as (λ _. Option Choices) [
   | Some choice ↦ chosen (with_field choices choice.field choice.daemons) words
 ]
 
--- those that the words begin with: the daemon's, or this project's
-abbrev pub at_first : (as_nagios : Bool) → Choices
-at_first as_nagios = if as_nagios then nagios else own
+-- those that the words begin with: the daemon's, or this project's, where text is read as Nagios reads it or isn't
+abbrev pub at_first : (as_nagios reads : Bool) → Choices
+at_first as_nagios reads = if as_nagios then nagios else with_field own Text reads

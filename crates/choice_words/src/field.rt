@@ -36,6 +36,8 @@ pub enum Field {
     Order,
     /// A contact that lists no options.
     ContactNone,
+    /// Object text.
+    Text,
 }
 
 /// The choices with the daemon's rule in a field, or this project's.
@@ -58,6 +60,7 @@ pub(crate) fn with_field(choices: Choices, field: Field, daemons: bool) -> Choic
         Field::AtResults => chosen.at_results = daemons,
         Field::Order => chosen.order = daemons,
         Field::ContactNone => chosen.contact_none = daemons,
+        Field::Text => chosen.text = daemons,
     }
     chosen
 }

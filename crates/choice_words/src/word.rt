@@ -79,6 +79,10 @@ pub(crate) fn said(word: &str) -> Option<ChoiceWord>
         so(Field::ContactNone, false)
     } else if word == "contact_none=nagios" {
         so(Field::ContactNone, true)
+    } else if word == "text=own" {
+        so(Field::Text, false)
+    } else if word == "text=nagios" {
+        so(Field::Text, true)
     } else {
         None
     }

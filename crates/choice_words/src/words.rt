@@ -3,26 +3,26 @@
 ghost use Rattle.std.specs.Prelude.{◌≡◌, map};
 ghost use Rattle.choice_words.specs.Words.{at_first, chosen};
 
-use crate::field::with_field;
+use crate::field::{Field, with_field};
 use crate::word::said;
 use due_model::config::Choices;
 
-/// Whose rules decide by the words of a command line: the daemon's where they are asked for, this project's else, and in each
+/// Whose rules decide by the words of a command line: the daemon's where they are asked for, this project's else, with object text read as Nagios `reads` it or not, and in each
 /// field that a word FIELD=own or FIELD=nagios names as the last such word says. None, where a word is none of these.
-pub fn choices_of(as_nagios: bool, words: &[&str]) -> Option<Choices>
-    ensures { result ≡ chosen (at_first as_nagios) (map (λ word. word.now) words.now) }
+pub fn choices_of(as_nagios: bool, reads: bool, words: &[&str]) -> Option<Choices>
+    ensures { result ≡ chosen (at_first as_nagios reads) (map (λ word. word.now) words.now) }
 {
-    chosen(at_first(as_nagios), words)
+    chosen(at_first(as_nagios, reads), words)
 }
 
 /// Those that the words begin with.
-fn at_first(as_nagios: bool) -> Choices
-    ensures { result ≡ at_first as_nagios }
+fn at_first(as_nagios: bool, reads: bool) -> Choices
+    ensures { result ≡ at_first as_nagios reads }
 {
     if as_nagios {
         Choices::nagios()
     } else {
-        Choices::own()
+        with_field(Choices::own(), Field::Text, reads)
     }
 }
 

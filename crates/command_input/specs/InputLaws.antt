@@ -57,42 +57,42 @@ module _ (known : Option (List ℕ)) (start : Reading)
 -- ---- what a fault says
 
 -- the object text gives no configuration, and nothing was written
-pub text_failed : (can_fail : Bool) (mark : Option (List ℕ)) (bytes : List ℕ)
+pub text_failed : (choices : Choices) (can_fail : Bool) (mark : Option (List ℕ)) (bytes : List ℕ)
     (fault : CommandFault) (held : Option (List ℕ)) (IsFront : Type 0)
-    → TextFails can_fail mark fault (Some bytes)
-    → CommandFails can_fail (text_before mark bytes) fault held held IsFront
-text_failed can_fail mark bytes (Objects fault) held IsFront h = (h, keeps_same held)
-text_failed can_fail mark bytes Unreadable held IsFront h = (keeps_same held, h)
-text_failed can_fail mark bytes Output held IsFront h = absurd h
-text_failed can_fail mark bytes NoMemory held IsFront h = inl (keeps_same held)
+    → TextFails choices can_fail mark fault (Some bytes)
+    → CommandFails choices can_fail (text_before mark bytes) fault held held IsFront
+text_failed choices can_fail mark bytes (Objects fault) held IsFront h = (h, keeps_same held)
+text_failed choices can_fail mark bytes Unreadable held IsFront h = (keeps_same held, h)
+text_failed choices can_fail mark bytes Output held IsFront h = absurd h
+text_failed choices can_fail mark bytes NoMemory held IsFront h = inl (keeps_same held)
 
 -- the same of the text of an input
-pub input_failed : (can_fail : Bool) (known : Option (List ℕ)) (start : Reading)
+pub input_failed : (choices : Choices) (can_fail : Bool) (known : Option (List ℕ)) (start : Reading)
     (fault : CommandFault) (held : Option (List ℕ)) (IsFront : List ℕ → Type 0)
     → start ≡ record { line = []; held = []; unread = known; calls = 0 }
-    → ObjectsFail can_fail fault (to_come start)
+    → ObjectsFail choices can_fail fault (to_come start)
     → IfSome known
-    (λ bytes. CommandFails can_fail (objects_in bytes) fault held held (IsFront bytes))
-input_failed can_fail known start fault held IsFront begins h =
-    some_known known (λ k. ObjectsFail can_fail fault k)
-    (λ bytes. CommandFails can_fail (objects_in bytes) fault held held (IsFront bytes))
-    (of_input known start (λ k. ObjectsFail can_fail fault k) begins h)
-    (λ bytes fails. text_failed can_fail objects_mark bytes fault held (IsFront bytes) fails)
+    (λ bytes. CommandFails choices can_fail (objects_in bytes) fault held held (IsFront bytes))
+input_failed choices can_fail known start fault held IsFront begins h =
+    some_known known (λ k. ObjectsFail choices can_fail fault k)
+    (λ bytes. CommandFails choices can_fail (objects_in bytes) fault held held (IsFront bytes))
+    (of_input known start (λ k. ObjectsFail choices can_fail fault k) begins h)
+    (λ bytes fails. text_failed choices can_fail objects_mark bytes fault held (IsFront bytes) fails)
 
 -- the output failed, or memory ran out, once a front was written
-write_failed : (sink can_fail : Bool) (text : List ℕ) (fault : CommandFault)
+write_failed : (choices : Choices) (sink can_fail : Bool) (text : List ℕ) (fault : CommandFault)
     (old new : Option (List ℕ)) (IsFront : Type 0) → IsWriteFault sink fault → IsFront
-    → CommandFails can_fail text fault old new IsFront
-write_failed sink can_fail text (Objects fault) old new IsFront w front = absurd w
-write_failed sink can_fail text Unreadable old new IsFront w front = absurd w
-write_failed sink can_fail text Output old new IsFront w front = front
-write_failed sink can_fail text NoMemory old new IsFront w front = inr front
+    → CommandFails choices can_fail text fault old new IsFront
+write_failed choices sink can_fail text (Objects fault) old new IsFront w front = absurd w
+write_failed choices sink can_fail text Unreadable old new IsFront w front = absurd w
+write_failed choices sink can_fail text Output old new IsFront w front = front
+write_failed choices sink can_fail text NoMemory old new IsFront w front = inr front
 
 -- the same of what came of it
-pub writing_failed : {T : Type 0} (sink can_fail : Bool) (text : List ℕ)
+pub writing_failed : {T : Type 0} (choices : Choices) (sink can_fail : Bool) (text : List ℕ)
     (r : Result T CommandFault) (old new : Option (List ℕ)) (IsFront : Type 0)
     → IfErr r (λ fault. IsWriteFault sink fault) → OnErr r IsFront
-    → IfErr r (λ fault. CommandFails can_fail text fault old new IsFront)
-writing_failed sink can_fail text (Ok x) old new IsFront w front = tt
-writing_failed sink can_fail text (Err fault) old new IsFront w front =
-    write_failed sink can_fail text fault old new IsFront w front
+    → IfErr r (λ fault. CommandFails choices can_fail text fault old new IsFront)
+writing_failed choices sink can_fail text (Ok x) old new IsFront w front = tt
+writing_failed choices sink can_fail text (Err fault) old new IsFront w front =
+    write_failed choices sink can_fail text fault old new IsFront w front

@@ -11,7 +11,7 @@ use Rattle.command_output.specs.declared.outcome.CommandFault.TheVariants.{Objec
 
 -- the text gives this configuration by these choices
 abbrev pub IsTextBy : Choices → Config → List ℕ → Type 0
-IsTextBy choices config text = IsTextOf config text × (config.choices ≡ choices)
+IsTextBy choices config text = IsTextOf choices.text config text × (config.choices ≡ choices)
 
 -- where the bytes are known, the text before the mark gives this configuration, and what follows it is left to be read
 abbrev pub GivesText : (mark : Option (List ℕ)) → Choices → Config → (before after : Option (List ℕ)) → Type 0
@@ -20,13 +20,13 @@ GivesText mark choices config before after = Known before after
     × (rest ≡ rest_after mark bytes))
 
 -- what a fault says of that text, where the bytes are known; only a reader that can fail makes it unreadable
-abbrev pub TextFails : (can_fail : Bool) → (mark : Option (List ℕ)) → CommandFault
+abbrev pub TextFails : Choices → (can_fail : Bool) → (mark : Option (List ℕ)) → CommandFault
     → Option (List ℕ) → Type 0
-TextFails can_fail mark (Objects fault) known =
-    IfSome known (λ bytes. IsTextFault (text_before mark bytes) fault)
-TextFails can_fail mark Unreadable known = can_fail ≡ true
-TextFails can_fail mark Output known = ⊥
-TextFails can_fail mark NoMemory known = ⊤
+TextFails choices can_fail mark (Objects fault) known =
+    IfSome known (λ bytes. IsTextFault choices.text (text_before mark bytes) fault)
+TextFails choices can_fail mark Unreadable known = can_fail ≡ true
+TextFails choices can_fail mark Output known = ⊥
+TextFails choices can_fail mark NoMemory known = ⊤
 
 -- ---- the text at the head of an input
 
@@ -44,8 +44,8 @@ feed_in bytes = rest_after objects_mark bytes
 abbrev pub GivesObjects : Choices → Config → (before after : Option (List ℕ)) → Type 0
 GivesObjects choices config before after = GivesText objects_mark choices config before after
 
-abbrev pub ObjectsFail : (can_fail : Bool) → CommandFault → Option (List ℕ) → Type 0
-ObjectsFail can_fail fault known = TextFails can_fail objects_mark fault known
+abbrev pub ObjectsFail : Choices → (can_fail : Bool) → CommandFault → Option (List ℕ) → Type 0
+ObjectsFail choices can_fail fault known = TextFails choices can_fail objects_mark fault known
 
 -- ---- the text of a file of its own
 
@@ -54,16 +54,16 @@ abbrev pub IsFileOf : Choices → Config → Option (List ℕ) → Type 0
 IsFileOf choices config known = IfSome known (λ text. IsTextBy choices config text)
 
 -- what a fault says of it
-abbrev pub FileFails : (can_fail : Bool) → CommandFault → Option (List ℕ) → Type 0
-FileFails can_fail fault known = TextFails can_fail None fault known
+abbrev pub FileFails : Choices → (can_fail : Bool) → CommandFault → Option (List ℕ) → Type 0
+FileFails choices can_fail fault known = TextFails choices can_fail None fault known
 
 -- ---- what a command that reads it says of its fault
 
 -- Where the text is refused or can't be read nothing was written; where the output failed what was written is a front, and
 -- where memory ran out that, or nothing. Only a reader that can fail makes the text unreadable.
-abbrev pub CommandFails : (can_fail : Bool) → (text : List ℕ) → CommandFault
+abbrev pub CommandFails : Choices → (can_fail : Bool) → (text : List ℕ) → CommandFault
     → (old new : Option (List ℕ)) → (IsFront : Type 0) → Type 0
-CommandFails can_fail text (Objects fault) old new IsFront = IsTextFault text fault × Keeps old new
-CommandFails can_fail text Unreadable old new IsFront = Keeps old new × (can_fail ≡ true)
-CommandFails can_fail text Output old new IsFront = IsFront
-CommandFails can_fail text NoMemory old new IsFront = Keeps old new ⊎ IsFront
+CommandFails choices can_fail text (Objects fault) old new IsFront = IsTextFault choices.text text fault × Keeps old new
+CommandFails choices can_fail text Unreadable old new IsFront = Keeps old new × (can_fail ≡ true)
+CommandFails choices can_fail text Output old new IsFront = IsFront
+CommandFails choices can_fail text NoMemory old new IsFront = Keeps old new ⊎ IsFront

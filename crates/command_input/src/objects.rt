@@ -32,7 +32,7 @@ fn read_config<R: Input + Drop>(
     ensures config { IfOk result (λ config.
         GivesText (option_copied mark.entry) choices config (to_come lines.old) (to_come lines.new)) }
     ensures fault { IfErr result (λ fault.
-        TextFails R.can_fail (option_copied mark.entry) fault (to_come lines.old)) }
+        TextFails choices R.can_fail (option_copied mark.entry) fault (to_come lines.old)) }
 {
     match lines.read_text(alloc, mark) {
         Ok(text) => Ok(load(alloc, choices, text)?),
@@ -54,7 +54,7 @@ pub fn read_objects<R: Input + Drop>(
     ensures choices { IfOk result (λ config. config.choices ≡ choices) }
     ensures config { IfOk result (λ config.
         GivesObjects choices config (to_come lines.old) (to_come lines.new)) }
-    ensures fault { IfErr result (λ fault. ObjectsFail R.can_fail fault (to_come lines.old)) }
+    ensures fault { IfErr result (λ fault. ObjectsFail choices R.can_fail fault (to_come lines.old)) }
 {
     read_config(alloc, choices, lines, Some(MARK))
 }
@@ -69,7 +69,7 @@ pub fn read_object_file<R: Input + Drop>(
     ensures accepted { IfOk result (λ config. IsAccepted config) }
     ensures choices { IfOk result (λ config. config.choices ≡ choices) }
     ensures config { IfOk result (λ config. IsFileOf choices config (R.remaining reader)) }
-    ensures fault { IfErr result (λ fault. FileFails R.can_fail fault (R.remaining reader)) }
+    ensures fault { IfErr result (λ fault. FileFails choices R.can_fail fault (R.remaining reader)) }
 {
     let mut lines = LineReader::new(alloc, reader)?;
     read_config(alloc, choices, &mut lines, None)

@@ -34,11 +34,12 @@ abbrev pub with_zone : App → App
 with_zone app =
     with_rule (with_rule app (text_option (codes "zone"))) (text_option (codes "zone-file"))
 
--- and two that say whose rules decide
+-- and three that say whose rules decide, and how object text is read
 abbrev pub with_choices : App → App
 with_choices app =
-    with_rule (with_rule app (flag_option (codes "as-nagios"))) (text_options (codes "choose"))
+    with_rule (with_rule (with_rule app (flag_option (codes "as-nagios"))) (flag_option (codes "nagios")))
+    (text_options (codes "choose"))
 
--- beside its other options a command has these four
+-- beside its other options a command has these five
 abbrev pub with_site : App → App
 with_site app = with_choices (with_zone app)

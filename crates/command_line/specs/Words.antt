@@ -53,6 +53,7 @@ pub record IsZoneOf (options : Found) (words : ZoneWords) : Type 0 where
   pub rule : option_copied words.rule ≡ first_value options (codes "zone")
   pub file : option_copied words.file ≡ first_value options (codes "zone-file")
   pub as_nagios : IsFlag options (codes "as-nagios") words.as_nagios
+  pub nagios : IsFlag options (codes "nagios") words.nagios
   pub choose : option_map (λ texts. map (λ text. text.now) texts.now) words.choose
       ≡ option_map raw_values (matched_of options (codes "choose"))
 

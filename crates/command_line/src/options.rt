@@ -83,7 +83,15 @@ fn with_choices<'a>(alloc: Global, command: Command<'a>) -> Result<Command<'a>, 
         "as-nagios",
         "By the rules of the daemon of Nagios Core 4.4.6, where they differ from these",
     );
-    command.arg(as_nagios)?.arg(choose_option(alloc))
+    let nagios = flag_option(
+        alloc,
+        "nagios",
+        "Reads object text as Nagios does: what else is refused by name is taken",
+    );
+    command
+        .arg(as_nagios)?
+        .arg(nagios)?
+        .arg(choose_option(alloc))
 }
 
 /// Adds the options that say what zone local times are of, and whose rules decide.
@@ -202,6 +210,7 @@ pub(crate) fn zone_words<'m, 'a>(options: &'m ArgMatches<'a>) -> ZoneWords<'m, '
         rule: options.get_str("zone"),
         file: options.get_str("zone-file"),
         as_nagios: options.get_flag("as-nagios"),
+        nagios: options.get_flag("nagios"),
         choose: options.get_strs("choose"),
     }
 }

@@ -22,6 +22,8 @@ pub struct ZoneWords<'m, 'a> {
     pub file: Option<&'a str>,
     /// Whether the daemon's rules decide.
     pub as_nagios: bool,
+    /// Whether object text is read as Nagios reads it.
+    pub nagios: bool,
     /// The words FIELD=own or FIELD=nagios, in order, if there are some: in each field the last that names it decides.
     pub choose: Option<&'m [&'a str]>,
 }

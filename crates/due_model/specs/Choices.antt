@@ -19,6 +19,7 @@ own = record {
   at_results = false;
   order = false;
   contact_none = false;
+  text = false;
 }
 
 -- the daemon's
@@ -38,4 +39,5 @@ nagios = record {
   at_results = true;
   order = true;
   contact_none = true;
+  text = true;
 }

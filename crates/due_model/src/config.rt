@@ -237,6 +237,9 @@ pub struct Choices {
     /// A contact whose object text has no option list. Here it is told of everything. By the daemon it is told of nothing
     /// (chapter "Object Definitions" asks for the list). Object text is read by it; nothing here asks for it again.
     pub contact_none: bool,
+    /// Object text that Nagios reads and this project refuses by name: directives without a value, other spellings, volatile
+    /// services, ranges that end before they begin. By the daemon it is read as Nagios reads it.
+    pub text: bool,
 }
 
 impl Choices {
@@ -259,6 +262,7 @@ impl Choices {
             at_results: false,
             order: false,
             contact_none: false,
+            text: false,
         }
     }
 
@@ -281,6 +285,7 @@ impl Choices {
             at_results: true,
             order: true,
             contact_none: true,
+            text: true,
         }
     }
 }

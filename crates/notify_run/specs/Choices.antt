@@ -11,4 +11,4 @@ choice_texts words =
 
 -- the choices that they make; none, where one of them says nothing
 abbrev pub chosen_by : ZoneWords → Option Choices
-chosen_by words = chosen (at_first words.as_nagios) (choice_texts words)
+chosen_by words = chosen (at_first words.as_nagios words.nagios) (choice_texts words)

@@ -276,8 +276,8 @@ fn choices_asked(words: ZoneWords<'_, '_>) -> Option<Choices>
     ensures { result ≡ chosen_by words.entry }
 {
     match words.choose {
-        Some(texts) => choices_of(words.as_nagios, texts),
-        None => choices_of(words.as_nagios, &[]),
+        Some(texts) => choices_of(words.as_nagios, words.nagios, texts),
+        None => choices_of(words.as_nagios, words.nagios, &[]),
     }
 }
 

@@ -38,7 +38,7 @@ module _ (choices : Choices) (can_fail : Bool) (c c' : Config) (zone zone' : Zon
       → IfErr r (λ fault. FailsOf choices text_can_fail can_fail text bytes zone fault old new)
   fault_of sink text_can_fail h w text bytes of left =
       let all = subst (λ (t : Config × Zone × Feed). WritesReportFront can_fail t.0 t.1 t.2 old new) (same_all c c' zone zone' feed (feed_of reading 0 0 None) e f is) h in
-      writing_failed sink text_can_fail text r old new (ReportsFrontOf choices can_fail text bytes zone old new) w (on_err_always r (c, all.0, of, given_of all.0 bytes left all.1, all.2))
+      writing_failed choices sink text_can_fail text r old new (ReportsFrontOf choices can_fail text bytes zone old new) w (on_err_always r (c, all.0, of, given_of all.0 bytes left all.1, all.2))
 
   -- ---- of one input
 
@@ -71,9 +71,9 @@ module _ (choices : Choices) (can_fail : Bool) (c c' : Config) (zone zone' : Zon
     fault_of_files sink text_can_fail h w = files_read (λ text bytes. IfErr r (λ fault. FailsOf choices text_can_fail can_fail text bytes zone fault old new)) (fault_of sink text_can_fail h w)
 
 -- the object text gives no configuration, and nothing was written
-pub file_failed : (choices : Choices) (text_can_fail can_fail : Bool) (zone : Zone) (texts known : Option (List ℕ)) (fault : CommandFault) (held : Option (List ℕ)) → FileFails text_can_fail fault texts
+pub file_failed : (choices : Choices) (text_can_fail can_fail : Bool) (zone : Zone) (texts known : Option (List ℕ)) (fault : CommandFault) (held : Option (List ℕ)) → FileFails choices text_can_fail fault texts
     → IfSome texts (λ text. IfSome known (λ bytes. FailsOf choices text_can_fail can_fail text bytes zone fault held held))
 file_failed choices text_can_fail can_fail zone texts known fault held h =
-    some_known texts (λ k. FileFails text_can_fail fault k) (λ text. IfSome known (λ bytes. FailsOf choices text_can_fail can_fail text bytes zone fault held held)) h
+    some_known texts (λ k. FileFails choices text_can_fail fault k) (λ text. IfSome known (λ bytes. FailsOf choices text_can_fail can_fail text bytes zone fault held held)) h
     (λ text fails. some_all known (λ bytes. FailsOf choices text_can_fail can_fail text bytes zone fault held held)
-    (λ bytes. text_failed text_can_fail None text fault held (ReportsFrontOf choices can_fail text bytes zone held held) fails))
+    (λ bytes. text_failed choices text_can_fail None text fault held (ReportsFrontOf choices can_fail text bytes zone held held) fails))

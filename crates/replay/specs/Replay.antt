@@ -36,7 +36,7 @@ ReportsFrontOf choices can_fail objects feed zone old new =
 abbrev pub FailsOf : Choices → (text_can_fail can_fail : Bool) → (objects feed : List ℕ) → Zone
     → CommandFault → (old new : Option (List ℕ)) → Type 0
 FailsOf choices text_can_fail can_fail objects feed zone fault old new =
-    CommandFails text_can_fail objects fault old new
+    CommandFails choices text_can_fail objects fault old new
     (ReportsFrontOf choices can_fail objects feed zone old new)
 
 -- ---- of one input, which has the object text, a mark, and the feed

@@ -55,7 +55,7 @@ PrettyFrontOf choices picks coloured can_fail objects feed zone old new =
 abbrev pub FailsOf : Choices → Picks → (coloured : Bool) → (text_can_fail can_fail : Bool)
     → (objects feed : List ℕ) → Zone → CommandFault → (old new : Option (List ℕ)) → Type 0
 FailsOf choices picks coloured text_can_fail can_fail objects feed zone fault old new =
-    CommandFails text_can_fail objects fault old new
+    CommandFails choices text_can_fail objects fault old new
     (PrettyFrontOf choices picks coloured can_fail objects feed zone old new)
 
 -- ---- of one input, which has the object text, a mark, and the feed

@@ -35,7 +35,7 @@ abbrev pub FailsOf : {T : Type 0} → Choices → (Config → Zone → Form T) �
     → (text_can_fail can_fail : Bool) → (objects feed : List ℕ) → Zone → CommandFault
     → (old new : Option (List ℕ)) → Type 0
 FailsOf choices form teller text_can_fail can_fail objects feed zone fault old new =
-    CommandFails text_can_fail objects fault old new
+    CommandFails choices text_can_fail objects fault old new
     (TellsFrontOf choices form teller can_fail objects feed zone old new)
 
 -- ---- of a configuration and a feed

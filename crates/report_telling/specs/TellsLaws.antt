@@ -43,7 +43,7 @@ module _ {T : Type 0} (choices : Choices) (form : Config → Zone → Form T) (t
       → IfErr r (λ fault. FailsOf choices form teller text_can_fail can_fail text bytes zone fault old new)
   fault_of sink text_can_fail h w text bytes of left =
       let all = subst (λ (t : Config × Zone × Feed × T). TellsFeedFront form can_fail t.0 t.1 t.2 t.3 old new) (same_all c c' zone zone' feed (feed_of reading 0 0 None) teller teller' e f is k) h in
-      writing_failed sink text_can_fail text r old new (TellsFrontOf choices form teller can_fail text bytes zone old new) w (on_err_always r (c, all.0, of, given_of all.0 bytes left all.1, all.2))
+      writing_failed choices sink text_can_fail text r old new (TellsFrontOf choices form teller can_fail text bytes zone old new) w (on_err_always r (c, all.0, of, given_of all.0 bytes left all.1, all.2))
 
   -- ---- of a feed alone
 
@@ -93,12 +93,12 @@ module _ {T : Type 0} (choices : Choices) (form : Config → Zone → Form T) (t
     fault_of_files sink text_can_fail h w = files_read (λ text bytes. IfErr r (λ fault. FailsOf choices form teller text_can_fail can_fail text bytes zone fault old new)) (fault_of sink text_can_fail h w)
 
 -- the object text gives no configuration, and nothing was written
-pub file_failed : {T : Type 0} (choices : Choices) (form : Config → Zone → Form T) (teller : T) (text_can_fail can_fail : Bool) (zone : Zone) (texts known : Option (List ℕ)) (fault : CommandFault) (held : Option (List ℕ)) → FileFails text_can_fail fault texts
+pub file_failed : {T : Type 0} (choices : Choices) (form : Config → Zone → Form T) (teller : T) (text_can_fail can_fail : Bool) (zone : Zone) (texts known : Option (List ℕ)) (fault : CommandFault) (held : Option (List ℕ)) → FileFails choices text_can_fail fault texts
     → IfSome texts (λ text. IfSome known (λ bytes. FailsOf choices form teller text_can_fail can_fail text bytes zone fault held held))
 file_failed choices form teller text_can_fail can_fail zone texts known fault held h =
-    some_known texts (λ k. FileFails text_can_fail fault k) (λ text. IfSome known (λ bytes. FailsOf choices form teller text_can_fail can_fail text bytes zone fault held held)) h
+    some_known texts (λ k. FileFails choices text_can_fail fault k) (λ text. IfSome known (λ bytes. FailsOf choices form teller text_can_fail can_fail text bytes zone fault held held)) h
     (λ text fails. some_all known (λ bytes. FailsOf choices form teller text_can_fail can_fail text bytes zone fault held held)
-    (λ bytes. text_failed text_can_fail None text fault held (TellsFrontOf choices form teller can_fail text bytes zone held held) fails))
+    (λ bytes. text_failed choices text_can_fail None text fault held (TellsFrontOf choices form teller can_fail text bytes zone held held) fails))
 
 -- nothing was written of a feed
 pub front_of_nothing : {T : Type 0} (form : Config → Zone → Form T) (teller : T) (can_fail : Bool) (config : Config) (zone : Zone) (known : Option (List ℕ)) (held : Option (List ℕ))

@@ -37,7 +37,7 @@ abbrev pub ChecksFail : Choices → (can_fail : Bool) → (known : Option (List 
     → RunFault → Type 0
 ChecksFail choices can_fail known names (Channel fault) =
     (config : Config) × IsAccepted config × IsFileOf choices config known × NamesFail config names fault
-ChecksFail choices can_fail known names (Command fault) = FileFails can_fail fault known
+ChecksFail choices can_fail known names (Command fault) = FileFails choices can_fail fault known
 
 -- the configuration of the text, where its bytes are known, and the lanes of the names
 pub record AreChecked (choices : Choices) (known : Option (List ℕ)) (names : List (List ℕ)) (config : Config)

@@ -27,14 +27,14 @@ each_known P Q R S (Some first) (Some second) (Some bytes) p q s each = each fir
 
 module _ (choices : Choices) (form : ChangeForm) (x y can_fail : Bool) (zone : Zone) (firsts seconds known : Option (List ℕ)) (old new : Option (List ℕ)) where
   -- the first text gives no configuration
-  pub first_failed : (fault : CommandFault) → FileFails x fault firsts
+  pub first_failed : (fault : CommandFault) → FileFails choices x fault firsts
       → IfSome firsts (λ first. IfSome seconds (λ second. IfSome known (λ bytes. FailsOf choices form x y can_fail first second bytes zone (Command fault) old old)))
   first_failed fault h =
-      some_known firsts (λ k. FileFails x fault k) (λ first. IfSome seconds (λ second. IfSome known (λ bytes. FailsOf choices form x y can_fail first second bytes zone (Command fault) old old))) h
+      some_known firsts (λ k. FileFails choices x fault k) (λ first. IfSome seconds (λ second. IfSome known (λ bytes. FailsOf choices form x y can_fail first second bytes zone (Command fault) old old))) h
       (λ first fails. some_all seconds _ (λ second. some_all known _
-      (λ bytes. text_failed x None first fault old (ComparesFrontOf choices form can_fail first second bytes zone old old) fails)))
+      (λ bytes. text_failed choices x None first fault old (ComparesFrontOf choices form can_fail first second bytes zone old old) fails)))
 
-  second_at : (a : Config) (fault : CompareFault) (first second bytes : List ℕ) → IsTextBy choices a first → SecondFails y fault (Some second) → FailsOf choices form x y can_fail first second bytes zone fault old old
+  second_at : (a : Config) (fault : CompareFault) (first second bytes : List ℕ) → IsTextBy choices a first → SecondFails choices y fault (Some second) → FailsOf choices form x y can_fail first second bytes zone fault old old
   second_at a (With fault) first second bytes of h = (a, of, h, keeps_same old)
   second_at a WithUnreadable first second bytes of h = (a, of, keeps_same old, h)
   second_at a (Command (Objects fault)) first second bytes of h = absurd h
@@ -43,11 +43,11 @@ module _ (choices : Choices) (form : ChangeForm) (x y can_fail : Bool) (zone : Z
   second_at a (Command NoMemory) first second bytes of h = inl (keeps_same old)
 
   -- the second gives none
-  pub second_failed : (a : Config) (fault : CompareFault) → IsFileOf choices a firsts → SecondFails y fault seconds
+  pub second_failed : (a : Config) (fault : CompareFault) → IsFileOf choices a firsts → SecondFails choices y fault seconds
       → IfSome firsts (λ first. IfSome seconds (λ second. IfSome known (λ bytes. FailsOf choices form x y can_fail first second bytes zone fault old old)))
   second_failed a fault of h =
       some_known firsts (λ k. IsFileOf choices a k) (λ first. IfSome seconds (λ second. IfSome known (λ bytes. FailsOf choices form x y can_fail first second bytes zone fault old old))) of
-      (λ first is. some_known seconds (λ k. SecondFails y fault k) (λ second. IfSome known (λ bytes. FailsOf choices form x y can_fail first second bytes zone fault old old)) h
+      (λ first is. some_known seconds (λ k. SecondFails choices y fault k) (λ second. IfSome known (λ bytes. FailsOf choices form x y can_fail first second bytes zone fault old old)) h
       (λ second fails. some_all known _ (λ bytes. second_at a fault first second bytes is fails)))
 
   module _ (a b : Config) (of : IsFileOf choices a firsts) (of' : IsFileOf choices b seconds) where
@@ -73,8 +73,8 @@ module _ (choices : Choices) (form : ChangeForm) (x y can_fail : Bool) (zone : Z
         (λ first second bytes is is' front. fails_at sink fault first second bytes w (a, b, is, is', front))
 
 -- a fault of the second text, where it was read
-pub second_reads : (y : Bool) (fault : CommandFault) (seconds : Option (List ℕ)) → FileFails y fault seconds → SecondFails y (fault_of_second fault) seconds
-second_reads y (Objects fault) seconds h = h
-second_reads y Unreadable seconds h = h
-second_reads y Output seconds h = h
-second_reads y NoMemory seconds h = tt
+pub second_reads : (choices : Choices) (y : Bool) (fault : CommandFault) (seconds : Option (List ℕ)) → FileFails choices y fault seconds → SecondFails choices y (fault_of_second fault) seconds
+second_reads choices y (Objects fault) seconds h = h
+second_reads choices y Unreadable seconds h = h
+second_reads choices y Output seconds h = h
+second_reads choices y NoMemory seconds h = tt

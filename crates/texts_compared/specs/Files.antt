@@ -28,22 +28,22 @@ ComparesFrontOf choices form can_fail first second feed zone old new =
     × ComparesFrontFor form can_fail a b feed zone old new
 
 -- what a fault says of the second text
-abbrev pub SecondFails : (can_fail : Bool) → CompareFault → Option (List ℕ) → Type 0
-SecondFails can_fail (With fault) known = IfSome known (λ text. IsTextFault text fault)
-SecondFails can_fail WithUnreadable known = can_fail ≡ true
-SecondFails can_fail (Command (Objects fault)) known = ⊥
-SecondFails can_fail (Command Unreadable) known = ⊥
-SecondFails can_fail (Command Output) known = ⊥
-SecondFails can_fail (Command NoMemory) known = ⊤
+abbrev pub SecondFails : Choices → (can_fail : Bool) → CompareFault → Option (List ℕ) → Type 0
+SecondFails choices can_fail (With fault) known = IfSome known (λ text. IsTextFault choices.text text fault)
+SecondFails choices can_fail WithUnreadable known = can_fail ≡ true
+SecondFails choices can_fail (Command (Objects fault)) known = ⊥
+SecondFails choices can_fail (Command Unreadable) known = ⊥
+SecondFails choices can_fail (Command Output) known = ⊥
+SecondFails choices can_fail (Command NoMemory) known = ⊤
 
 -- What a fault says: where a text is refused or can't be read nothing was written, and the first is looked at before the
 -- second; where the output failed what was written is a front, and where memory ran out that, or nothing.
 abbrev pub FailsOf : Choices → ChangeForm → (first_can_fail second_can_fail can_fail : Bool)
     → (first second feed : List ℕ) → Zone → CompareFault → (old new : Option (List ℕ)) → Type 0
 FailsOf choices form x y can_fail first second feed zone (Command fault) old new =
-    CommandFails x first fault old new
+    CommandFails choices x first fault old new
     (ComparesFrontOf choices form can_fail first second feed zone old new)
 FailsOf choices form x y can_fail first second feed zone (With fault) old new =
-    (a : Config) × IsTextBy choices a first × IsTextFault second fault × Keeps old new
+    (a : Config) × IsTextBy choices a first × IsTextFault choices.text second fault × Keeps old new
 FailsOf choices form x y can_fail first second feed zone WithUnreadable old new =
     (a : Config) × IsTextBy choices a first × Keeps old new × (y ≡ true)

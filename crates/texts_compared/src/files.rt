@@ -58,7 +58,7 @@ fn read_second<S: Input + Drop>(
 ) -> Result<Config, CompareFault>
     ensures accepted { IfOk result (λ config. IsAccepted config) }
     ensures config { IfOk result (λ config. IsFileOf choices config (S.remaining after)) }
-    ensures fault { IfErr result (λ fault. SecondFails S.can_fail fault (S.remaining after)) }
+    ensures fault { IfErr result (λ fault. SecondFails choices S.can_fail fault (S.remaining after)) }
 {
     match read_object_file(alloc, choices, after) {
         Ok(config) => Ok(config),

@@ -28,6 +28,6 @@ module _ (choices : Choices) (can_fail : Bool) (c : Config) (zone : Zone) (setti
   fault_of_input sink h w =
       input_read known start begins choices c rest (λ bytes. IfErr r (λ fault. FailsWith choices can_fail zone settings standbys bytes fault old new)) gives
       (λ bytes of left.
-      writing_failed sink can_fail (objects_in bytes) r old new (TracesFrontIn choices can_fail zone settings standbys bytes old new) w
+      writing_failed choices sink can_fail (objects_in bytes) r old new (TracesFrontIn choices can_fail zone settings standbys bytes old new) w
       (on_err_weaker r (λ (first : IfSome rest (λ feed. TracesFront can_fail c zone settings standbys feed old new)).
       (c, of, subst (λ (k : Option (List ℕ)). IfSome k (λ feed. TracesFront can_fail c zone settings standbys feed old new)) left first)) h))

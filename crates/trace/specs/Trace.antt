@@ -148,5 +148,5 @@ TracesFrontIn choices can_fail zone settings standbys bytes old new =
 abbrev pub FailsWith : Choices → (can_fail : Bool) → Zone → Settings → (standbys : ℕ) → (bytes : List ℕ) → CommandFault
     → (old new : Option (List ℕ)) → Type 0
 FailsWith choices can_fail zone settings standbys bytes fault old new =
-    CommandFails can_fail (objects_in bytes) fault old new
+    CommandFails choices can_fail (objects_in bytes) fault old new
     (TracesFrontIn choices can_fail zone settings standbys bytes old new)

@@ -119,4 +119,4 @@ FailsOf choices form s can_fail objects zone (fault.Unknown unknown) old new =
     (config : Config) × IsTextBy choices config objects × (unknown_in config s ≡ Some unknown)
     × Keeps old new
 FailsOf choices form s can_fail objects zone (fault.Command command) old new =
-    CommandFails can_fail objects command old new (TellsWhoFront choices form s objects zone old new)
+    CommandFails choices can_fail objects command old new (TellsWhoFront choices form s objects zone old new)

@@ -20,7 +20,7 @@ pub returns-in_err-config-clause-fault : goal.returns-in_err-config-clause-fault
 returns-in_err-config-clause-fault g c =
     let p = err_from_is_err_and c.from_residual-in_err-config.result c.from_residual-in_err-config.ensures.1 in
     let w = g.W.Write.contents c.args.writer.now in
-    rw (p.1, p.2) (input_failed g.R.Input.can_fail (g.R.Read.remaining c.args.reader) c.in_ok-lines.lines c.in_err-config.field-0.0 w
+    rw (p.1, p.2) (input_failed c.args.choices g.R.Input.can_fail (g.R.Read.remaining c.args.reader) c.in_ok-lines.lines c.in_err-config.field-0.0 w
     (λ bytes. TellsFront c.args.choices (form_of g.T.Teller.told g.T.Teller.after g.T.Teller.ended) c.args.teller g.R.Input.can_fail bytes c.args.zone.now w w) c.in_ok-lines.ensures c.in_err-config.ensures.fault)
 
 pub returns-in_err-telling-clause-fault : goal.returns-in_err-telling-clause-fault

@@ -12,9 +12,9 @@ returns-in_err-config-clause-fault g c =
     let p = err_from_is_err_and c.from_residual.result c.from_residual.ensures.1 in
     let held = g.W.Write.contents c.args.writer.now in
     let command = c.in_err-config.field-0.0 in
-    rw (p.1, p.2) (some_known (g.O.Read.remaining c.args.objects) (λ k. FileFails g.O.Input.can_fail command k)
+    rw (p.1, p.2) (some_known (g.O.Read.remaining c.args.objects) (λ k. FileFails c.args.choices g.O.Input.can_fail command k)
     (λ text. FailsOf c.args.choices c.args.form c.args.supposed.now g.O.Input.can_fail text c.args.zone.now (fault.Command command) held held) c.in_err-config.ensures.fault
-    (λ text fails. text_failed g.O.Input.can_fail None text command held (TellsWhoFront c.args.choices c.args.form c.args.supposed.now text c.args.zone.now held held) fails))
+    (λ text fails. text_failed c.args.choices g.O.Input.can_fail None text command held (TellsWhoFront c.args.choices c.args.form c.args.supposed.now text c.args.zone.now held held) fails))
 
 pub returns-clause-table : goal.returns-clause-table
 returns-clause-table g c =

@@ -17,5 +17,5 @@ returns-clause-config g c =
 pub returns-clause-fault : goal.returns-clause-fault
 returns-clause-fault g c =
     IfErr-weaker c.read_config.result _ _
-    (λ fault fails. of_input (g.R.Read.remaining c.args.reader) c.in_ok-lines.lines (λ k. TextFails g.R.Input.can_fail None fault k) c.in_ok-lines.ensures fails)
+    (λ fault fails. of_input (g.R.Read.remaining c.args.reader) c.in_ok-lines.lines (λ k. TextFails c.args.choices g.R.Input.can_fail None fault k) c.in_ok-lines.ensures fails)
     c.read_config.ensures.fault

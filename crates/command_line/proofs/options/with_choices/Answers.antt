@@ -8,4 +8,6 @@ pub returns : goal.returns
 returns c =
     let one : app_of c.in_ok-arg.field-0 ≡ with_rule (app_of c.args.command) (flag_option (codes "as-nagios")) =
     c.in_ok-arg.ensures.shape c.flag_option-as_nagios.ensures.local ∙ ap (with_rule (app_of c.args.command)) c.flag_option-as_nagios.ensures.rule in
-    record { words = IfOk-weaker c.arg-2.result _ _ (λ r h. h.shape c.choose_option.ensures.local ∙ ap₂ with_rule one c.choose_option.ensures.rule) c.arg-2.ensures }
+    let two : app_of c.in_ok-arg-2.field-0 ≡ with_rule (with_rule (app_of c.args.command) (flag_option (codes "as-nagios"))) (flag_option (codes "nagios")) =
+    c.in_ok-arg-2.ensures.shape c.flag_option-nagios.ensures.local ∙ ap₂ with_rule one c.flag_option-nagios.ensures.rule in
+    record { words = IfOk-weaker c.arg-3.result _ _ (λ r h. h.shape c.choose_option.ensures.local ∙ ap₂ with_rule two c.choose_option.ensures.rule) c.arg-3.ensures }
