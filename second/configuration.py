@@ -50,6 +50,7 @@ class Object:
     period: int
     interval: int
     delay: int
+    volatile: bool
     contacts: list
 
 
@@ -108,6 +109,8 @@ def reached(starts, ends):
 
 class Names(Site):
     """The registered blocks by their names, and what lists of names mean, where no template has a fault."""
+    # The fields in which the daemon's rule decides.
+    choices = frozenset()
 
     def __init__(self, blocks):
         super().__init__(blocks)
@@ -236,7 +239,7 @@ class Checked(Names):
             return "BadOption"
         if any(line.name in DAYS and ranges_in(line.value) is None for line in lines) or any(self.is_bad_line(line) for line in dated):
             return "BadRange"
-        if kind == "service" and number_in(self.value(place, "is_volatile") or "0") != 0:
+        if kind == "service" and "text" not in self.choices and number_in(self.value(place, "is_volatile") or "0") != 0:
             return "Volatile"
         if any(entry.startswith("!") for name in lists for entry in self.list(place, name) or []):
             return "Exclusion"
@@ -291,8 +294,8 @@ class Configuration(Checked):
     fields in which the daemon's rule decides."""
 
     def __init__(self, blocks, choices=()):
-        super().__init__(blocks)
         self.choices = frozenset(choices)
+        super().__init__(blocks)
         self.period_numbers = {self.name(place): number for number, place in enumerate(self.of("timeperiod"))}
         self.periods = [self.period_of(place) for place in self.of("timeperiod")]
         self.lanes = self.lanes_used()
@@ -364,7 +367,7 @@ class Configuration(Checked):
             None if on is None else self.numbers[host], self.number(place, "notifications_enabled", 1) != 0,
             self.options(place, "notification_options", "host" if on is None else "service"),
             self.period(place, "notification_period", on and on.period), self.number(place, "notification_interval", on.interval if on else 30),
-            self.number(place, "first_notification_delay", 0), own if own is not None else on.contacts if on else []))
+            self.number(place, "first_notification_delay", 0), host is not None and self.number(place, "is_volatile", 0) != 0, own if own is not None else on.contacts if on else []))
 
     def places_of(self, number):
         """Where the block of an object stands, and the block of its host, which is a host's own."""

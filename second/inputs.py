@@ -227,6 +227,11 @@ class Site:
                 self.add("servicedependency", lists + self.use("servicedependency") + self.dependency("service"))
 
     def line(self, name, value):
+        if self.chance(self.oddity / 3):
+            return f" {name}" + (" ; note" if self.odd() else "")
+        if self.chance(self.oddity / 3):
+            name = self.draw.choice(["host", "hosts", "hostgroup", "hostgroups", "host_groups", "service_groups", "description", "contact_groups", "master_host",
+                                     "dependent_host", "dependent_description", "notification_failure_options", name])
         line = f" {name}{self.draw.choice([' ', chr(9), '  '])}{value}"
         if self.chance(0.03) and "," in line:
             line = line.replace(",", ",\\\n   ", 1)

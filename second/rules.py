@@ -10,7 +10,7 @@ LETTERS = {"DOWN": "d", "UNREACHABLE": "u", "WARNING": "w", "UNKNOWN": "u", "CRI
 MOST_AHEAD = 34_560_000
 # The fields in which either this project's rule decides or the daemon's.
 CHOICES = ("host_down", "host_repeats", "host_dep", "nobody", "told", "reset_wait", "delay", "dep_pending", "period_wait", "downtime_wait", "esc_other",
-           "at_results", "order", "contact_none")
+           "at_results", "order", "contact_none", "text")
 # The daemon's order of filters.
 OF_DAEMON = ("Program", "Period", "Disabled", "Acknowledged", "Dependency", "Options", "NoProblem", "FirstDelay", "Flapping", "Downtime", "Interval", "HostDown",
              "ContactDisabled", "ContactPeriod", "ContactOptions", "ContactNotTold")
@@ -64,6 +64,8 @@ class Rules:
         self.configuration, self.choices = configuration, configuration.choices
         self.statuses = [Status() for _ in configuration.objects]
         self.moment, self.is_on, self.count = 0, True, 0
+        # The volatile service that has a hard state at this event.
+        self.renewed = None
         self.lines, self.notices = [], []
         # Whether a period holds changes at multiples of this alone, as far as zones are whole quarters of an hour from UTC.
         days = [day for it in configuration.periods for day in [*it.days, *(ranges for _, ranges in it.dated)]]
@@ -131,7 +133,7 @@ class Rules:
             ("Dependency", of_state and (self.depends(number) or hosts and self.depends(it.host))),
             ("Acknowledged", kind == "PROBLEM" and now.taken_on is not None),
             ("FirstDelay", kind == "PROBLEM" and now.sent == 0 and self.moment < now.since + 60 * it.delay),
-            ("Interval", kind == "PROBLEM" and same and (now.last[2] == 0 or self.moment < now.last[1] + now.last[2])),
+            ("Interval", kind == "PROBLEM" and self.renewed != number and same and (now.last[2] == 0 or self.moment < now.last[1] + now.last[2])),
             ("HostDown", of_state and self.is_held(number)),
         ]
         return self.first(tests)
@@ -247,7 +249,9 @@ class Rules:
             return
         if begins:
             now.sent, now.last, now.ready, now.letters = 0, None, None, frozenset()
+        self.renewed = number if self.configuration.objects[number].volatile else None
         self.attempt(number, "PROBLEM")
+        self.renewed = None
 
     def take_on(self, number, word):
         now = self.statuses[number]

@@ -1,10 +1,10 @@
 -- Directives that stand alone in their line, without a value.
 use Rattle.std.specs.Prelude.{ℕ, ◌-◌, Bool, false, not, ◌==◌, ◌&&◌, ◌||◌, List, [], ◌∷◌, ◌++◌, length, take, codes, slice_index, nat_lt, if◌then◌else◌}
 use Rattle.std.specs.Char.{is_ascii_alphanumeric}
-use Rattle.std.specs.List.{before_first, list_all, list_any, slice_split}
+use Rattle.std.specs.List.{before_first, list_all, slice_split}
 use Rattle.std.specs.Str.{bytes_eq}
 use Rattle.object_reader.specs.Blanks.{trimmed}
-use Rattle.object_reader.specs.DayLines.{weekdays}
+use Rattle.object_reader.specs.DayLines.{begins_day}
 use Rattle.object_reader.specs.Joined.{ends_in_backslash, without_last}
 
 -- what stands for the value of a directive without one: the byte 1
@@ -39,10 +39,10 @@ bare line = trimmed (before_first (λ b. b == 59) (without_return line))
 abbrev pub is_of_name : ℕ → Bool
 is_of_name byte = is_ascii_alphanumeric byte || byte == 95
 
--- whether bytes are the name of a directive, and nothing more; a day has to have times
+-- whether bytes are the name of a directive, and nothing more; a day line has to have times
 abbrev pub is_lone : List ℕ → Bool
 is_lone bytes = nat_lt 0 (length bytes) && list_all is_of_name bytes
-    && not (list_any (bytes_eq bytes) weekdays) && not (bytes_eq bytes (codes "define"))
+    && not (begins_day bytes) && not (bytes_eq bytes (codes "define"))
 
 -- what is read of a line that isn't the rest of one before it
 abbrev pub said_of : List ℕ → List ℕ

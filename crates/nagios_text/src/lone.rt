@@ -6,7 +6,7 @@ ghost use Rattle.object_reader.specs.Joined.{ends_in_backslash, without_last};
 ghost use Rattle.nagios_text.specs.Lone.{bare, ends_in_one, goes_on, is_lone, is_of_name, line_said, marked, said_of, without_return};
 
 use object_reader::blanks::trim;
-use object_reader::day_line::is_weekday;
+use object_reader::day_line::begins_day;
 use std::alloc::{AllocError, Global};
 
 /// What stands for the value of a directive without one.
@@ -78,13 +78,13 @@ fn is_of_name(byte: u8) -> bool
     byte.is_ascii_alphanumeric() || byte == b'_'
 }
 
-/// Whether bytes are the name of a directive, and nothing more. A day has to have times.
+/// Whether bytes are the name of a directive, and nothing more. A day line has to have times.
 fn is_lone(bytes: &[u8]) -> bool
     ensures { result ≡ is_lone bytes.now }
 {
     !bytes.is_empty()
         && bytes.iter().all(|byte| is_of_name(*byte))
-        && !is_weekday(bytes)
+        && !begins_day(bytes)
         && bytes != b"define".as_slice()
 }
 
