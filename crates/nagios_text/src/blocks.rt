@@ -1,6 +1,6 @@
 //! Blocks as Nagios reads them.
 
-ghost use Rattle.std.specs.Prelude.{◌≡◌, ◌++◌, ◌∷◌, ◌&&◌, [], IfOk, OnOk};
+ghost use Rattle.std.specs.Prelude.{◌≡◌, ◌++◌, ◌∷◌, [], IfOk, OnOk};
 ghost use Rattle.nagios_text.specs.Blocks.{emptied, is_volatile, made, plain_block, plain_blocks, plain_directive, said, value_said, volatile_said};
 
 use crate::lone::MARK;

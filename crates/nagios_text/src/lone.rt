@@ -1,7 +1,7 @@
 //! Directives that stand alone in their line, without a value: each is given a mark for one, as a line of object text has to have a value.
 
-ghost use Rattle.std.specs.Prelude.{◌≡◌, ◌&&◌, ◌++◌, IfOk, OnOk, not};
-ghost use Rattle.std.specs.List.{before_first, position};
+ghost use Rattle.std.specs.Prelude.{◌≡◌, ◌==◌, ◌++◌, IfOk, OnOk};
+ghost use Rattle.std.specs.List.{before_first};
 ghost use Rattle.object_reader.specs.Joined.{ends_in_backslash, without_last};
 ghost use Rattle.nagios_text.specs.Lone.{bare, ends_in_one, goes_on, is_lone, is_of_name, line_said, marked, said_of, without_return};
 
