@@ -1,6 +1,6 @@
 //! One line of the feed.
 
-ghost use Rattle.std.specs.Prelude.{◌≡◌, ◌+◌, ◌≤◌, ◌∷◌, ◌==◌};
+ghost use Rattle.std.specs.Prelude.{◌≡◌, ◌+◌, ◌≤◌, ◌∷◌, ◌==◌, ℕ, List};
 ghost use Rattle.std.specs.Prelude.{Some, None, IfOk, IfSome, nat_le};
 ghost use Rattle.std.specs.Prelude.{◌<◌, ◌^◌, All, IsTrue, length, min, take_while};
 ghost use Rattle.std.specs.Prelude.{if◌then◌else◌};
@@ -361,13 +361,13 @@ fn unknown_fault(words: Words, arguments: &[u8]) -> FeedFault
 {
     match split_field(arguments) {
         (_, None) => FeedFault::UnknownObject,
-        (word, Some(more)) => unknown_fault_after(words, word, more),
+        (_, Some(more)) => unknown_fault_after(words, more),
     }
 }
 
 /// The same where more follows a word.
-fn unknown_fault_after(words: Words, word: &[u8], more: &[u8]) -> FeedFault
-    ensures { result ≡ unknown_fault words (word.now ∷ fields more.now) }
+fn unknown_fault_after(words: Words, more: &[u8]) -> FeedFault
+    ensures { (word : List ℕ) → result ≡ unknown_fault words (word ∷ fields more.now) }
 {
     match (words, split_field(more)) {
         (Words::Acks, (_, None)) => FeedFault::UnknownObject,
