@@ -50,8 +50,8 @@ class Object:
     period: int
     interval: int
     delay: int
-    volatile: bool
     contacts: list
+    volatile: bool = False
 
 
 @dataclass
@@ -367,7 +367,8 @@ class Configuration(Checked):
             None if on is None else self.numbers[host], self.number(place, "notifications_enabled", 1) != 0,
             self.options(place, "notification_options", "host" if on is None else "service"),
             self.period(place, "notification_period", on and on.period), self.number(place, "notification_interval", on.interval if on else 30),
-            self.number(place, "first_notification_delay", 0), host is not None and self.number(place, "is_volatile", 0) != 0, own if own is not None else on.contacts if on else []))
+            self.number(place, "first_notification_delay", 0), own if own is not None else on.contacts if on else [],
+            on is not None and self.number(place, "is_volatile", 0) != 0))
 
     def places_of(self, number):
         """Where the block of an object stands, and the block of its host, which is a host's own."""

@@ -25,8 +25,8 @@ def event_in(configuration, line):
     if name not in WORDS and name not in PLAIN:
         return None, "UnknownKind"
     count = 0 if name in PLAIN else 2 if name.startswith("HOST") else 3
-    # Behind the word of an acknowledgement another may stand.
-    told = name.endswith("_ACK") and len(arguments) == count + 1
+    # Behind the word of an acknowledgement this one may stand.
+    told = name.endswith("_ACK") and len(arguments) == count + 1 and arguments[count] == "NOTIFY"
     if len(arguments) != count + told:
         return None, "BadState"
     if name in PLAIN:
@@ -35,7 +35,7 @@ def event_in(configuration, line):
     number = configuration.find(*names)
     if number is None:
         return None, "UnknownObject"
-    if word not in WORDS[name] or told and (word == "NONE" or arguments[count] != "NOTIFY"):
+    if word not in WORDS[name] or told and word == "NONE":
         return None, "BadState"
     if told:
         return (int(stamp[1]), "TOLD_ACK", number, word), None

@@ -1,7 +1,7 @@
 -- No word has a `;`. So of an object that is known, a wrong word and an argument too many are told by one look: neither
 -- is one of the words that stand alone.
-use Rattle.std.proofs.Common.{◌≡◌, ℕ, ◌<◌, ◌≤◌, Bool, true, false, if◌then◌else◌, not, cond, eqb, List, [], ◌∷◌, length, Option, Some, None, Err, refl, sym, ap, subst, ◌∙◌, ◌⊎◌, inl, inr, ⊎_elim, arith}
-use Rattle.std.specs.Prelude.{codes}
+use Rattle.std.proofs.Common.{◌≡◌, ℕ, ◌<◌, ◌≤◌, Bool, true, false, true≢false, if◌then◌else◌, not, cond, eqb, List, [], ◌∷◌, length, Option, Some, None, Result, Err, refl, sym, ap, subst, ◌∙◌, ◌⊎◌, inl, inr, ⊎_elim, arith}
+use Rattle.std.specs.Prelude.{codes, is_some}
 use Rattle.std.specs.List.{position_or_len, before_first, after_first}
 use Rattle.std.specs.Option.{ok_or}
 use Rattle.std.specs.Str.{bytes_eq}
@@ -15,8 +15,9 @@ use Rattle.due_model.specs.declared.config.Object.{Object}
 use Rattle.due_model.specs.declared.config.ObjectId.{ObjectId}
 use Rattle.due_model.specs.declared.event.DowntimeChange.TheVariants.{Start, End, Cancelled}
 use Rattle.due_model.specs.declared.event.EventKind.{EventKind}
-use Rattle.due_model.specs.declared.event.EventKind.TheVariants.{Hard, Downtime, Flapping, Ack, AckRemoved, OwnSwitch}
+use Rattle.due_model.specs.declared.event.EventKind.TheVariants.{Clock, Hard, Downtime, Flapping, Ack, AckRemoved, OwnSwitch}
 use Rattle.due_model.specs.declared.state.State.TheVariants.{Up, Down, Unreachable, Fine, Warning, Unknown, Critical}
+use Rattle.event_feed.specs.declared.fault.FeedFault.{FeedFault}
 use Rattle.event_feed.specs.declared.fault.FeedFault.TheVariants.{BadState, UnknownObject}
 use Rattle.event_feed.specs.declared.line.Subject.{Subject}
 use Rattle.event_feed.specs.declared.line.Subject.TheVariants.{Host, Service}
@@ -77,7 +78,14 @@ no_word word first more (Some kind) one many =
     absurd (omega (arith, clash))
 
 -- words that stand alone
-no_more : (words : Words) (subject : Subject) (id : ObjectId) (first second : List ℕ) (others : List (List ℕ)) → takes_more words ≡ false
+abbrev pub is_alone : Words → Bool
+is_alone States = true
+is_alone Downtimes = true
+is_alone Flaps = true
+is_alone Acks = false
+is_alone Switches = true
+
+no_more : (words : Words) (subject : Subject) (id : ObjectId) (first second : List ℕ) (others : List (List ℕ)) → is_alone words ≡ true
     → None ≡ all_said words subject id (first ∷ second ∷ others)
 no_more States subject id first second [] alone = refl
 no_more Downtimes subject id first second [] alone = refl
@@ -86,7 +94,7 @@ no_more Acks subject id first second [] alone = cc
 no_more Switches subject id first second [] alone = refl
 no_more words subject id first second (third ∷ others) alone = refl
 
-pub said-alone : (words : Words) (subject : Subject) (id : ObjectId) (bytes : List ℕ) → takes_more words ≡ false → said words subject id bytes ≡ all_said words subject id (fields bytes)
+pub said-alone : (words : Words) (subject : Subject) (id : ObjectId) (bytes : List ℕ) → is_alone words ≡ true → said words subject id bytes ≡ all_said words subject id (fields bytes)
 said-alone words subject id bytes alone =
     ⊎_elim
     (λ (one : fields bytes ≡ bytes ∷ []). sym (ap (λ (parts : List (List ℕ)). all_said words subject id parts) one))
@@ -120,6 +128,10 @@ pub acks-told : (subject : Subject) (id : ObjectId) (word more : List ℕ) (part
 acks-told subject id word more parts is = acks-more subject id word more ∙ sym (ap (λ (parts : List (List ℕ)). all_said Acks subject id parts) is)
 
 -- of an object that is known
+twice : (b : Bool) (given : Option EventKind) → ok_or (cond b given None) BadState ≡ cond b (ok_or (cond b given None) BadState) (Err BadState)
+twice true given = refl
+twice false given = refl
+
 known : (objects : List Object) (words : Words) (subject : Subject) (host : List ℕ) (service : Option (List ℕ)) (id : ObjectId) (parts : List (List ℕ)) → object_named objects host service ≡ Some id
     → ok_or (all_said words subject id parts) BadState ≡ last_reading objects words subject host service parts
 known objects words subject host service id [] named = refl
@@ -127,7 +139,9 @@ known objects words subject host service id (word ∷ []) named = sym (ap (λ (o
 known objects States subject host service id (word ∷ more ∷ []) named = refl
 known objects Downtimes subject host service id (word ∷ more ∷ []) named = refl
 known objects Flaps subject host service id (word ∷ more ∷ []) named = refl
-known objects Acks subject host service id (word ∷ more ∷ []) named = sym (ap (λ (object : Option ObjectId). said_reading Acks subject object (word ∷ more ∷ [])) named)
+known objects Acks subject host service id (word ∷ more ∷ []) named =
+    twice (bytes_eq more (codes "NOTIFY")) (ack_given id true word)
+    ∙ sym (ap (λ (object : Option ObjectId). cond (bytes_eq more (codes "NOTIFY")) (said_reading Acks subject object (word ∷ more ∷ [])) (Err BadState)) named)
 known objects Switches subject host service id (word ∷ more ∷ []) named = refl
 known objects words subject host service id (word ∷ more ∷ another ∷ others) named = refl
 
@@ -138,6 +152,10 @@ last-known objects words subject host service arguments id rest named is =
     known objects words subject host service id (fields rest) named ∙ sym (ap (λ (after : Option (List ℕ)). last_reading objects words subject host service (fields_after after)) is)
 
 -- of one that isn't
+err_by : (b : Bool) → (let fault : Result EventKind FeedFault = Err (cond b UnknownObject BadState) in fault) ≡ cond b (Err UnknownObject) (Err BadState)
+err_by true = refl
+err_by false = refl
+
 unknown : (objects : List Object) (words : Words) (subject : Subject) (host : List ℕ) (service : Option (List ℕ)) (parts : List (List ℕ)) → object_named objects host service ≡ None
     → Err (unknown_fault words parts) ≡ last_reading objects words subject host service parts
 unknown objects words subject host service [] named = refl
@@ -145,7 +163,9 @@ unknown objects words subject host service (word ∷ []) named = sym (ap (λ (ob
 unknown objects States subject host service (word ∷ more ∷ []) named = refl
 unknown objects Downtimes subject host service (word ∷ more ∷ []) named = refl
 unknown objects Flaps subject host service (word ∷ more ∷ []) named = refl
-unknown objects Acks subject host service (word ∷ more ∷ []) named = sym (ap (λ (object : Option ObjectId). said_reading Acks subject object (word ∷ more ∷ [])) named)
+unknown objects Acks subject host service (word ∷ more ∷ []) named =
+    err_by (bytes_eq more (codes "NOTIFY"))
+    ∙ sym (ap (λ (object : Option ObjectId). cond (bytes_eq more (codes "NOTIFY")) (said_reading Acks subject object (word ∷ more ∷ [])) (Err BadState)) named)
 unknown objects Switches subject host service (word ∷ more ∷ []) named = refl
 unknown objects words subject host service (word ∷ more ∷ another ∷ others) named = refl
 
@@ -155,20 +175,38 @@ last-unknown objects words subject host service arguments rest named is =
     unknown objects words subject host service (fields rest) named ∙ sym (ap (λ (after : Option (List ℕ)). last_reading objects words subject host service (fields_after after)) is)
 
 -- why it is refused
-pub unknown-parts : (words : Words) (parts others : List (List ℕ)) → parts ≡ others → unknown_fault words others ≡ unknown_fault words parts
-unknown-parts words parts others is = sym (ap (unknown_fault words) is)
-
-pub unknown-many : (words : Words) (word more : List ℕ) (first : List ℕ) (rest : List ℕ) → fields more ≡ first ∷ fields rest → BadState ≡ unknown_fault words (word ∷ fields more)
-unknown-many words word more first rest is =
+many-words : (words : Words) (word more first rest : List ℕ) → fields more ≡ first ∷ fields rest → BadState ≡ unknown_fault words (word ∷ fields more)
+many-words words word more first rest is =
     let split = slice_split-first (λ byte. eqb byte 59) rest in
     sym (ap (λ (parts : List (List ℕ)). unknown_fault words (word ∷ parts)) (is ∙ ap (λ (parts : List (List ℕ)). first ∷ parts) split.are))
 
--- of two words, but of acknowledgements
-pub unknown-two : (words : Words) (word more : List ℕ) → takes_more words ≡ false → BadState ≡ unknown_fault words (word ∷ fields more)
-unknown-two words word more alone =
-    let split = slice_split-first (λ byte. eqb byte 59) more in
-    by_words words split.others alone ∙ sym (ap (λ (parts : List (List ℕ)). unknown_fault words (word ∷ parts)) split.are)
+one-word : (words : Words) (word more : List ℕ) → fields more ≡ more ∷ [] → cond (takes_more words more) UnknownObject BadState ≡ unknown_fault words (word ∷ fields more)
+one-word words word more one = sym (ap (λ (parts : List (List ℕ)). unknown_fault words (word ∷ parts)) one)
+
+-- where the words stand alone
+pub alone-fault : (words : Words) (word more : List ℕ) → is_alone words ≡ true → BadState ≡ unknown_fault words (word ∷ fields more)
+alone-fault words word more alone =
+    ⊎_elim
+    (λ (one : fields more ≡ more ∷ []). by_words words alone ∙ one-word words word more one)
+    (λ (many : (first : List ℕ) × (rest : List ℕ) × (fields more ≡ first ∷ fields rest)). many-words words word more many.0 many.1 many.2)
+    (one_or_more more)
   where
-    by_words : (words : Words) {first : List ℕ} (others : List (List ℕ)) → takes_more words ≡ false → BadState ≡ unknown_fault words (word ∷ first ∷ others)
-    by_words words [] alone = ap (λ (b : Bool). if b then UnknownObject else BadState) (sym alone)
-    by_words words (third ∷ others) alone = refl
+    by_words : (words : Words) → is_alone words ≡ true → BadState ≡ cond (takes_more words more) UnknownObject BadState
+    by_words States alone = refl
+    by_words Downtimes alone = refl
+    by_words Flaps alone = refl
+    by_words Acks alone = cc
+    by_words Switches alone = refl
+
+-- of an acknowledgement
+pub ack-fault : (word more : List ℕ) → cond (bytes_eq more (codes "NOTIFY")) UnknownObject BadState ≡ unknown_fault Acks (word ∷ fields more)
+ack-fault word more =
+    ⊎_elim
+    (λ (one : fields more ≡ more ∷ []). one-word Acks word more one)
+    (λ (many : (first : List ℕ) × (rest : List ℕ) × (fields more ≡ first ∷ fields rest)).
+    cond_both (bytes_eq more (codes "NOTIFY")) UnknownObject BadState (λ (fault : FeedFault). fault ≡ unknown_fault Acks (word ∷ fields more))
+    (λ is. let same : more ≡ codes "NOTIFY" = (bytes_eq-Decides more (codes "NOTIFY")).0 is in
+    let whole : fields more ≡ more ∷ [] = subst (λ (w : List ℕ). fields w ≡ w ∷ []) (sym same) refl in
+    let clash : Some Clock ≡ None = no_word more many.0 many.1 (Some Clock) whole many.2 in absurd (true≢false (ap is_some clash)))
+    (λ _. many-words Acks word more many.0 many.1 many.2))
+    (one_or_more more)

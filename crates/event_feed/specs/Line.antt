@@ -160,13 +160,13 @@ said_more Flaps object word more = None
 said_more Acks object word more = told_ack_said object word more
 said_more Switches object word more = None
 
--- whether another word may stand there: behind an acknowledgement's alone
-abbrev pub takes_more : Words → Bool
-takes_more States = false
-takes_more Downtimes = false
-takes_more Flaps = false
-takes_more Acks = true
-takes_more Switches = false
+-- whether this word may stand there: behind an acknowledgement's alone
+abbrev pub takes_more : Words → (more : List ℕ) → Bool
+takes_more States more = false
+takes_more Downtimes more = false
+takes_more Flaps more = false
+takes_more Acks more = bytes_eq more (codes "NOTIFY")
+takes_more Switches more = false
 
 -- what all words say of such an object
 abbrev pub all_said : Words → Subject → ObjectId → List (List ℕ) → Option EventKind
@@ -182,11 +182,11 @@ abbrev pub said_reading : Words → Subject → Option ObjectId → List (List �
 said_reading words subject None arguments = Err UnknownObject
 said_reading words subject (Some object) arguments = ok_or (all_said words subject object arguments) BadState
 
--- whether so many words may follow the name of an object: one, and of an acknowledgement two
+-- whether so many words may follow the name of an object: one, and `NOTIFY` behind that of an acknowledgement
 abbrev pub are_so_many : Words → List (List ℕ) → Bool
 are_so_many words [] = false
 are_so_many words (word ∷ []) = true
-are_so_many words (word ∷ more ∷ []) = takes_more words
+are_so_many words (word ∷ more ∷ []) = takes_more words more
 are_so_many words (word ∷ more ∷ another ∷ others) = false
 
 -- what follows the name of an object: words, and nothing more

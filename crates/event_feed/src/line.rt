@@ -10,6 +10,7 @@ ghost use Rattle.std.specs.List.{prefix_len};
 ghost use Rattle.due_model.specs.Proper.{IsProper};
 ghost use Rattle.due_model.specs.Limits.{last_moment};
 ghost use Rattle.std.specs.Char.{is_ascii_digit};
+ghost use Rattle.event_feed.specs.declared.fault.FeedFault.TheVariants.{BadState, UnknownObject};
 ghost use Rattle.event_feed.specs.declared.line.Subject.{Subject};
 ghost use Rattle.event_feed.specs.declared.line.Words.TheVariants.{Acks};
 ghost use Rattle.event_feed.specs.Line.{ack_given, ack_said, all_said, bare_reading, command_named, command_of};
@@ -365,12 +366,23 @@ fn unknown_fault(words: Words, arguments: &[u8]) -> FeedFault
     }
 }
 
+/// The fault of an object that isn't known, where the number of arguments is right.
+fn fault_by(right: bool) -> FeedFault
+    ensures { result ≡ if right then UnknownObject else BadState }
+{
+    if right {
+        FeedFault::UnknownObject
+    } else {
+        FeedFault::BadState
+    }
+}
+
 /// The same where more follows a word.
 fn unknown_fault_after(words: Words, more: &[u8]) -> FeedFault
     ensures { (word : List ℕ) → result ≡ unknown_fault words (word ∷ fields more.now) }
 {
-    match (words, split_field(more)) {
-        (Words::Acks, (_, None)) => FeedFault::UnknownObject,
+    match words {
+        Words::Acks => fault_by(is_word(more, b"NOTIFY")),
         _ => FeedFault::BadState,
     }
 }
