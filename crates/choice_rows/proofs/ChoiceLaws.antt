@@ -1,5 +1,6 @@
 -- What each choice means.
 use Rattle.std.proofs.Common.{◌≡◌, ℕ, ◌+◌, Bool, true, false, not, ◌&&◌, ◌||◌, cond, List, [], ◌∷◌, Option, None, Some, is_some, if◌then◌else◌, refl, sym, ap, ap₂, ◌∙◌, arith}
+use Rattle.std.specs.List.{list_any}
 use Rattle.std.proofs.lemmas.Bool.{not-false}
 use Rattle.std.proofs.lemmas.List.Sums.{sum_by-cons}
 use Rattle.due_model.specs.declared.config.Choices.{Choices}
@@ -26,6 +27,7 @@ use Rattle.due_model.specs.Dependencies.{dependency_fails, fails_at}
 use Rattle.due_model.specs.Escalations.{contacts_with, has_contact, reach}
 use Rattle.due_model.specs.Histories.{before, down_with_host, ended, ended_at, ended_within, host_holds, is_service_of, lapses, last_notice, notice_of, notices_sent, outcome_of, repeats, told_letters, with_repeat}
 use Rattle.due_model.specs.Periods.{in_period}
+use Rattle.due_model.specs.Receivers.{passes, receivers}
 use Rattle.due_model.specs.Readings.{began, begins, hard, is_problem_state, moment}
 use Rattle.due_model.specs.Rules.{contact_failing_by, failing_by, first_failing, has_come, has_letter, is_problem, is_recovery, letter_of, meets, same_state, state_letter, with_letter}
 use Rattle.choice_rows.specs.Laws.{AllAreHeard, ChangesEndTheWait, DelaysRunFromChanges, KnowsNoChoice, LeavesAll, OwnRulesKnowNoChoice, TheClockDoesNothing, ToldLettersAreTaken, UnheardNoticesLeaveAll}
@@ -39,10 +41,13 @@ and_none true = refl
 and_none false = refl
 
 -- an outcome that is no notice
+abbrev counted_once : Option Last → ℕ
+counted_once seen = cond (is_some seen) 1 0
+
 leaves_all : (x : Outcome) (history : List Outcome) → notice_of x ≡ None → LeavesAll x history
 leaves_all x history none =
     let one = sum_by-cons (λ (y : Outcome). cond (is_some (notice_of y)) 1 0) x history in
-    let zero : cond (is_some (notice_of x)) 1 0 ≡ 0 = ap (λ (last : Option Last). cond (is_some last) 1 0) none in
+    let zero : counted_once (notice_of x) ≡ 0 = ap counted_once none in
     record {
       number = omega (arith, one, zero);
       last = ap (λ (last : Option Last). elim last as (λ _. Option Last) [ None ↦ last_notice history | Some l ↦ Some l ]) none;
@@ -56,7 +61,7 @@ unheard_leaves k s number m gap reach history unheard =
     (ap (λ (heard : Bool). if is_problem k && heard then Some now else None) unheard ∙ ap (λ (b : Bool). if b then Some now else None) (and_none (is_problem k)))
 
 pub all_heard : AllAreHeard
-all_heard c zone o object a number told standing own = ap (λ (nobody : Bool). not nobody || _) own
+all_heard c zone o object a number told standing own = ap (λ (nobody : Bool). not nobody || list_any (passes c zone object a told) (receivers c zone o object a number standing)) own
 
 pub changes_end : ChangesEndTheWait
 changes_end c zone o object e past history chosen changed =
