@@ -1,5 +1,5 @@
 -- What each choice means.
-use Rattle.std.proofs.Common.{◌≡◌, ℕ, ◌+◌, Bool, true, false, not, ◌&&◌, ◌||◌, cond, List, [], ◌∷◌, Option, None, Some, is_some, if◌then◌else◌, refl, sym, ap, ap₂, ◌∙◌, arith}
+use Rattle.std.proofs.Common.{◌≡◌, ℕ, Bool, true, false, not, ◌&&◌, ◌||◌, cond, List, [], ◌∷◌, Option, None, Some, is_some, if◌then◌else◌, refl, ap, ap₂, ◌∙◌, arith}
 use Rattle.std.specs.List.{list_any}
 use Rattle.std.proofs.lemmas.Bool.{not-false}
 use Rattle.std.proofs.lemmas.List.Sums.{sum_by-cons}
@@ -25,7 +25,7 @@ use Rattle.due_model.specs.Changes.{changes, delayed}
 use Rattle.due_model.specs.Choices.{own}
 use Rattle.due_model.specs.Dependencies.{dependency_fails, fails_at}
 use Rattle.due_model.specs.Escalations.{contacts_with, has_contact, reach}
-use Rattle.due_model.specs.Histories.{before, down_with_host, ended, ended_at, ended_within, host_holds, is_service_of, lapses, last_notice, notice_of, notices_sent, outcome_of, repeats, told_letters, with_repeat}
+use Rattle.due_model.specs.Histories.{before, down_with_host, ended, ended_at, ended_within, host_holds, is_service_of, lapses, last_notice, notice_of, outcome_of, repeats, told_letters, with_repeat}
 use Rattle.due_model.specs.Periods.{in_period}
 use Rattle.due_model.specs.Receivers.{passes, receivers}
 use Rattle.due_model.specs.Readings.{began, begins, hard, is_problem_state, moment}

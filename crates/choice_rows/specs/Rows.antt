@@ -1,5 +1,5 @@
 -- Worked rows of each choice: a configuration with the host web, its contact ann and the command mail, in UTC.
-use Rattle.std.specs.Prelude.{◌≡◌, ℕ, Bool, true, false, List, [], ◌∷◌, reverse, replicate, map, codes, Some, None, Option, ◌++◌}
+use Rattle.std.specs.Prelude.{◌≡◌, ℕ, true, false, List, [], ◌∷◌, reverse, replicate, map, codes, Some, None}
 use Rattle.due_model.specs.declared.config.Config.{Config}
 use Rattle.due_model.specs.declared.config.Contact.{Contact}
 use Rattle.due_model.specs.declared.config.Escalation.{Escalation}
@@ -25,8 +25,6 @@ use Rattle.due_model.specs.declared.zone.Zone.TheVariants.{Utc}
 use Rattle.due_model.specs.Due.{due, sup}
 use Rattle.due_model.specs.Options.{every_letter}
 use Rattle.due_model.specs.Choices.{own}
-use Rattle.due_model.specs.declared.config.Choices.{Choices}
-use Rattle.due_model.specs.declared.config.Dependency.{Dependency}
 
 abbrev pub on_mail : Rights
 on_mail = record {

@@ -22,7 +22,7 @@ use Rattle.due_laws.proofs.Unheard.{silent}
 use Rattle.due_model.specs.declared.notice.Reach.{Reach}
 use Rattle.due_model.specs.Due.{due_for, due_at, notices}
 use Rattle.due_laws.specs.Laws.{last_problem, notice_number, number_carried, up_to, WaitsAreOwn}
-use Rattle.due_laws.proofs.EachNotice.{SentGives, notices_each, due_for_each, due_at_each}
+use Rattle.due_laws.proofs.EachNotice.{notices_each, due_for_each, due_at_each}
 use Rattle.due_model.specs.Readings.{begins, is_hard_of}
 use Rattle.due_model.specs.declared.rules.Attempt.{Attempt}
 use Rattle.due_model.specs.declared.rules.Last.{Last}

@@ -1,5 +1,5 @@
 use Rattle.std.proofs.Common.{Bool, ◌∙◌, ap}
-use Rattle.problem_count.specs.Book.{begins_problem, BookValues, delayed_from, delays_by, emptied, stated}
+use Rattle.problem_count.specs.Book.{begins_problem, delayed_from, delays_by, emptied, stated}
 use Rattle.problem_count.proofs.book.Book.in_state.Goals as goal
 
 pub returns : goal.returns
