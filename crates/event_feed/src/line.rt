@@ -389,7 +389,12 @@ fn unknown_fault_after(words: Words, more: &[u8]) -> FeedFault
 
 /// What these words say of an object. No word of those that stand alone has a `;`.
 #[inline(always)]
-fn find_said(words: Words, subject: Subject, object: ObjectId, arguments: &[u8]) -> Option<EventKind>
+fn find_said(
+    words: Words,
+    subject: Subject,
+    object: ObjectId,
+    arguments: &[u8],
+) -> Option<EventKind>
     ensures { result ≡ all_said words subject object (fields arguments.now) }
 {
     match words {

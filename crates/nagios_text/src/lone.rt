@@ -16,10 +16,7 @@ pub(crate) const MARK: &[u8] = b"\x01";
 pub(crate) fn before(bytes: &[u8], mark: u8) -> &[u8]
     ensures { result.now ≡ before_first (λ b. b == mark) bytes.now }
 {
-    let end = bytes
-        .iter()
-        .position(|b| *b == mark)
-        .unwrap_or(bytes.len());
+    let end = bytes.iter().position(|b| *b == mark).unwrap_or(bytes.len());
     &bytes[..end]
 }
 

@@ -21,7 +21,10 @@ pub(crate) fn is_naming(kind: BlockKind, name: &[u8]) -> bool
 pub(crate) fn takes_none(name: &[u8]) -> bool
     ensures { result ≡ takes_none name.now }
 {
-    is_list_of_hosts(name) || is_list_of_dependents(name) || is_list_of_people(name) || is_period(name)
+    is_list_of_hosts(name)
+        || is_list_of_dependents(name)
+        || is_list_of_people(name)
+        || is_period(name)
 }
 
 /// Whether it is a list of hosts, services, or groups of them, or members of a group.

@@ -26,7 +26,11 @@ use std::alloc::{AllocError, Global};
 fn text_read(alloc: Global, nagios: bool, text: Vec<u8>) -> Result<Vec<u8>, AllocError>
     ensures { IfOk result (λ read. read.items ≡ text_read nagios text.items) }
 {
-    if nagios { marked(alloc, &text) } else { Ok(text) }
+    if nagios {
+        marked(alloc, &text)
+    } else {
+        Ok(text)
+    }
 }
 
 /// The blocks of object text, or its first fault. The text is dropped: the blocks have copies of what they need of it.
@@ -43,7 +47,11 @@ fn blocks_of(alloc: Global, nagios: bool, text: Vec<u8>) -> Result<Sequence<Bloc
 }
 
 /// What the blocks are taken for, where they are read as Nagios does or aren't.
-fn blocks_read(alloc: Global, nagios: bool, blocks: Sequence<Block>) -> Result<Sequence<Block>, AllocError>
+fn blocks_read(
+    alloc: Global,
+    nagios: bool,
+    blocks: Sequence<Block>,
+) -> Result<Sequence<Block>, AllocError>
     ensures { IfOk result (λ read. read ≡ blocks_read nagios blocks) }
 {
     if nagios {
