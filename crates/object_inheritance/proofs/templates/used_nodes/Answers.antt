@@ -20,9 +20,9 @@ pub returns : goal.returns
 returns c p q leads =
     let graph = c.args.graph.now in
     let low : p < length graph = ⊎_elim
-        (λ (low : p < length graph). low)
-        (λ (past : length graph ≤ p).
-        let none = subst (λ (ends : List ℕ). Contains ends q) (get_or_past graph p [] past) leads in
-        absurd (omega (arith, none.1)))
-        (cases_lt p (length graph)) in
+    (λ (low : p < length graph). low)
+    (λ (past : length graph ≤ p).
+    let none = subst (λ (ends : List ℕ). Contains ends q) (get_or_past graph p [] past) leads in
+    absurd (omega (arith, none.1)))
+    (cases_lt p (length graph)) in
     c.loop-node.invariant.marked p q (omega (arith, low, c.loop-node-test.false, c.node_count-count.ensures.count)) leads

@@ -20,25 +20,25 @@ pub given_at-requires-clause-within : goal.given_at-requires-clause-within
 given_at-requires-clause-within c =
     let s = c.self.inside in
     let has = kept-some s.blocks.now s.directive.now (option_map (λ uses. arc_value uses) s.uses) (arc_value c.in-Some.uses) s.column.items c.self.invariant
-        (ap (option_map (λ uses. arc_value uses)) c.in-Some.is) in
+    (ap (option_map (λ uses. arc_value uses)) c.in-Some.is) in
     let graph : length c.deref-2.result.now.graph ≡ length s.blocks.now =
-        ap (λ (one : Uses). length one.graph) c.deref-2.ensures ∙ ap (λ (graph : List (List ℕ)). length graph) has.using.same ∙ graph-long s.blocks.now in
+    ap (λ (one : Uses). length one.graph) c.deref-2.ensures ∙ ap (λ (graph : List (List ℕ)). length graph) has.using.same ∙ graph-long s.blocks.now in
     omega (arith, graph, has.long, c.len.ensures, s.column.ok, c.if-place-len.false)
 
 pub given_at-requires-clause-long : goal.given_at-requires-clause-long
 given_at-requires-clause-long c =
     let s = c.self.inside in
     let has = kept-some s.blocks.now s.directive.now (option_map (λ uses. arc_value uses) s.uses) (arc_value c.in-Some.uses) s.column.items c.self.invariant
-        (ap (option_map (λ uses. arc_value uses)) c.in-Some.is) in
+    (ap (option_map (λ uses. arc_value uses)) c.in-Some.is) in
     let graph : length c.deref-2.result.now.graph ≡ length s.blocks.now =
-        ap (λ (one : Uses). length one.graph) c.deref-2.ensures ∙ ap (λ (graph : List (List ℕ)). length graph) has.using.same ∙ graph-long s.blocks.now in
+    ap (λ (one : Uses). length one.graph) c.deref-2.ensures ∙ ap (λ (graph : List (List ℕ)). length graph) has.using.same ∙ graph-long s.blocks.now in
     ap (λ (column : List (Option Given)). length column) c.as_slice.ensures.value ∙ has.long ∙ sym graph
 
 pub returns : goal.returns
 returns c =
     let s = c.self.inside in
     let has = kept-some s.blocks.now s.directive.now (option_map (λ uses. arc_value uses) s.uses) (arc_value c.in-Some.uses) s.column.items c.self.invariant
-        (ap (option_map (λ uses. arc_value uses)) c.in-Some.is) in
+    (ap (option_map (λ uses. arc_value uses)) c.in-Some.is) in
     subst (λ (column : Column). IsGivenAt column.blocks column.directive c.args.place c.given_at.result) c.self.view_is
     (c.given_at.ensures s.blocks.now s.directive.now (ap (λ (one : Uses). one.graph) c.deref-2.ensures ∙ has.using.same)
     (subst (λ (column : List (Option Given)). IsNext s.blocks.now s.directive.now column c.args.place) (sym c.as_slice.ensures.value)

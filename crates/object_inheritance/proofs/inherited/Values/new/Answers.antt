@@ -18,6 +18,7 @@ pub of-requires-then-stays : goal.of-requires-then-stays
 of-requires-then-stays c =
     stays-given c.args.templates.now c.args.directive.now c.in_ok-own.own.items c.blocks-2.ensures.inherited (sym c.stays.ensures ∙ c.if-stays.true)
     (has-own c.givers.result.now c.args.templates.now c.args.directive.now c.in-Some.texts.now c.in_ok-own.own.items c.givers.ensures c.in-Some.ensures.last (c.in_ok-own.ensures.each c.givers.result.now))
+
 pub with_inherited-column-requires-clause-long : goal.with_inherited-column-requires-clause-long
 with_inherited-column-requires-clause-long c =
     c.in_ok-own.ensures.long ∙ ap (λ (blocks : List Block). length blocks) c.blocks-2.ensures.value
