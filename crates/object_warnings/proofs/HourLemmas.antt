@@ -1,5 +1,5 @@
 -- Minutes of a week, one by one.
-use Rattle.std.proofs.Common.{◌≡◌, ℕ, zero, suc, ◌+◌, ◌<◌, ◌≤◌, ◌⊎◌, Bool, true, false, not, cond, ◌&&◌, List, [], ◌∷◌, ◌++◌, length, map, set, get_or, Option, Some, None, refl, sym, ap, subst, eqb, eqb-true, inl, inr, ◌∙◌, arith}
+use Rattle.std.proofs.Common.{◌≡◌, ℕ, zero, suc, ◌+◌, ◌-◌, ◌<◌, ◌≤◌, ◌⊎◌, Bool, true, false, not, cond, ◌&&◌, List, [], ◌∷◌, ◌++◌, length, map, set, get_or, Option, Some, None, refl, sym, ap, subst, eqb, eqb-true, inl, inr, ◌∙◌, arith}
 use Rattle.std.specs.Prelude.{slice_get}
 use Rattle.std.specs.List.{list_any, range_with_len}
 use Rattle.std.specs.Option.{option_map_or}
@@ -16,7 +16,7 @@ use Rattle.due_model.specs.declared.config.Object.{Object}
 use Rattle.due_model.specs.declared.config.Period.{Period}
 use Rattle.due_model.specs.declared.config.PeriodId.{PeriodId}
 use Rattle.due_model.specs.declared.zone.Zone.TheVariants.{Utc}
-use Rattle.object_warnings.specs.Hours.{AreEnds, IsFirst, IsFirstSpan, Stays, flag, flags_at, holds_at, is_gap, lacks_hours, moment_of, row_at, rows_of, rows_upto, week, weekly}
+use Rattle.object_warnings.specs.Hours.{AreEnds, IsFirst, IsFirstSpan, Stays, flag, flags_at, gap_by, holds_at, is_covered, is_gap, lacks_hours, moment_of, row_at, rows_of, rows_upto, week, weekly}
 use Rattle.object_warnings.specs.Objects.{can_notify, is_told}
 use Rattle.object_warnings.specs.declared.hours.Span.{Span}
 
@@ -109,7 +109,7 @@ past-get [] i long = refl
 past-get (x ∷ xs) zero long = absurd (omega (arith, long))
 past-get (x ∷ xs) (suc i) long = past-get xs i (omega (arith, long))
 
-past-or : {X : Type 0} (xs : List X) (i : ℕ) (d : X) → length xs ≤ i → get_or xs i d ≡ d
+pub past-or : {X : Type 0} (xs : List X) (i : ℕ) (d : X) → length xs ≤ i → get_or xs i d ≡ d
 past-or [] i d long = refl
 past-or (x ∷ xs) zero d long = absurd (omega (arith, long))
 past-or (x ∷ xs) (suc i) d long = past-or xs i d (omega (arith, long))
@@ -149,6 +149,12 @@ row-upto w count minute within = get_or-map-range_with_len (flags_at w) 0 count 
 pub row-is : (c : Config) (minute : ℕ) (period : Option PeriodId) → minute < week → flag (row_at (rows_of (weekly c)) minute) period ≡ holds_at c minute period
 row-is c minute period within =
     ap (λ (flags : List Bool). flag flags period) (row-upto (weekly c) week minute within) ∙ flag-is (weekly c) minute period
+
+-- the row before
+pub last-is : {C : Type 0} (items : C → List Bool) (w : Config) (n : ℕ) (rows slice : List C) → slice ≡ rows → 0 < n → map items rows ≡ rows_upto w n
+    → row_at (map items slice) (n - 1) ≡ flags_at w (n - 1)
+last-is {C} items w n rows slice are some is =
+    ap (λ (all : List C). row_at (map items all) (n - 1)) are ∙ ap (λ (all : List (List Bool)). row_at all (n - 1)) is ∙ row-upto w n (n - 1) (omega (arith, some))
 
 pub rows-none : (w : Config) → [] ≡ rows_upto w 0
 unfolding rows_upto
@@ -218,6 +224,22 @@ first-at-object c n id object objects rows asked span id_is objects_are within i
     ∙ ap (λ (all : List (List Bool)). (can_notify object && is_told c id object) && is_gap c (flag (row_at all minute)) id object) rows_are
     ∙ ap (λ (k : ℕ). (can_notify object && is_told c k object) && is_gap c (flag (row_at (rows_of (weekly c)) minute)) k object) id_is
     ∙ at-object c n object minute here in_week) span first
+
+-- one that tells somebody has the first span of its hours
+pub first-of-told : (c : Config) (n id : ℕ) (object : Object) (objects : List Object) (rows : List (List Bool)) (hours : List (Option PeriodId)) (span : Option Span) → id ≡ n → objects ≡ c.objects
+    → n < length c.objects → object ≡ get_or objects n object → rows ≡ rows_of (weekly c) → true ≡ (can_notify object && is_told c id object)
+    → ((holds : Option PeriodId → Bool) → list_any holds hours ≡ is_covered c holds id object)
+    → IsFirst (λ minute. gap_by (row_at rows minute) object.period hours) span → IsFirst (lacks_hours c n) span
+first-of-told c n id object objects rows hours span id_is objects_are within is rows_are told cover first =
+    first-at-object c n id object objects rows true span id_is objects_are within is rows_are told
+    (first-same (λ minute. gap_by (row_at rows minute) object.period hours) (λ minute. true && is_gap c (flag (row_at rows minute)) id object)
+    (λ minute in_week. ap (λ (b : Bool). flag (row_at rows minute) object.period && not b) (cover (flag (row_at rows minute)))) span first)
+
+-- one that doesn't has none
+pub first-of-untold : (c : Config) (n id : ℕ) (object : Object) (objects : List Object) → id ≡ n → objects ≡ c.objects → n < length c.objects → object ≡ get_or objects n object
+    → false ≡ (can_notify object && is_told c id object) → IsFirst (lacks_hours c n) None
+first-of-untold c n id object objects id_is objects_are within is untold =
+    first-at-object c n id object objects (rows_of (weekly c)) false None id_is objects_are within is refl untold (first-none _ (λ minute in_week. refl))
 
 -- one span more
 pub spans-more : (c : Config) (n : ℕ) (old new : List (Option Span)) (span : Option Span) → length old ≡ n

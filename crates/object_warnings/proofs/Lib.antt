@@ -3,5 +3,8 @@ pub mod LineLemmas
 pub mod TableLemmas
 pub mod PeriodLemmas
 pub mod HourLemmas
+pub mod SteadyLemmas
+pub mod ToldLemmas
+pub mod CoveredLemmas
 pub mod AcceptedLemmas
 pub mod UnusedLemmas

@@ -1,6 +1,6 @@
 -- NoHours: a moment of a week, holidays apart, at which the object's period holds and no contact's does (chapters
 -- "Notifications" and "Time Periods").
-use Rattle.std.specs.Prelude.{◌≡◌, ℕ, ◌+◌, ◌*◌, ◌<◌, ◌≤◌, Bool, true, false, not, ◌==◌, ◌&&◌, ◌||◌, List, [], length, map, Option, Some, None, IfNone, IfSome, slice_get, slice_index_or}
+use Rattle.std.specs.Prelude.{◌≡◌, ℕ, ◌+◌, ◌*◌, ◌<◌, ◌≤◌, Bool, true, false, not, ◌==◌, ◌&&◌, ◌||◌, List, [], All, length, map, Option, Some, None, IfNone, IfSome, slice_get, slice_index_or}
 use Rattle.std.specs.List.{list_any, range_with_len}
 use Rattle.std.specs.Option.{option_map_or}
 use Rattle.due_model.specs.ByObject.{places_of}
@@ -13,6 +13,7 @@ use Rattle.due_model.specs.declared.config.PeriodId.{PeriodId}
 use Rattle.due_model.specs.declared.zone.Zone.TheVariants.{Utc}
 use Rattle.object_warnings.specs.Objects.{can_notify, is_told, rights_of}
 use Rattle.object_warnings.specs.declared.hours.Span.{Span}
+use Rattle.object_warnings.specs.declared.known_spans.Known.{Known}
 
 -- ---- the week
 
@@ -30,6 +31,9 @@ weekly c = record {
   escalations = [];
   dependencies = [];
 }
+
+abbrev pub IsUndated : Period → Type 0
+IsUndated period = period.dated ≡ []
 
 -- how many minutes a week has
 abbrev pub week : ℕ
@@ -106,6 +110,26 @@ flag flags (Some period) = slice_index_or flags period.0 false
 -- the flags of a minute
 abbrev pub row_at : List (List Bool) → (minute : ℕ) → List Bool
 row_at rows minute = slice_index_or rows minute []
+
+-- The periods that are flagged hold at each minute of the week.
+abbrev pub AreAlways : (rows : List (List Bool)) → List Bool → Type 0
+AreAlways rows flags = (period : Option PeriodId) (minute : ℕ) → minute < week
+    → flag flags period ≡ true → flag (row_at rows minute) period ≡ true
+
+-- the contacts of the escalation at the place
+abbrev pub contacts_by : Config → (place : ℕ) → List ContactId
+contacts_by c place = option_map_or (λ escalation. escalation.contacts) (slice_get c.escalations place) []
+
+-- whether a period holds by the flags, and none of these hours does
+abbrev pub gap_by : List Bool → (period : Option PeriodId) → (hours : List (Option PeriodId)) → Bool
+gap_by flags period hours = flag flags period && not (list_any (flag flags) hours)
+
+-- The span that is kept is the first of its period and hours, where these are the flags of each minute.
+abbrev pub IsKnown : (rows : List (List Bool)) → Known → Type 0
+IsKnown rows known = IsFirst (λ minute. gap_by (row_at rows minute) known.period known.hours.items) known.span
+
+abbrev pub AreKnown : (rows : List (List Bool)) → List (Option Known) → Type 0
+AreKnown rows slots = All (λ slot. IfSome slot (IsKnown rows)) slots
 
 -- which periods of a configuration hold at the minute of the week
 abbrev pub flags_at : Config → (minute : ℕ) → List Bool

@@ -7,5 +7,6 @@ pub mod Criteria
 pub mod Periods
 pub mod Overridden
 pub mod Hours
+pub mod Steady
 pub mod Unused
 pub mod Warning

@@ -45,6 +45,14 @@ names_by kind (musts.List side) given = []
 names_by kind HaveWholeLines given = []
 names_by kind HaveDayLines given = []
 
+-- whether a directive that must be so names objects of the type
+abbrev pub names_kind : NamedKind → Must → Bool
+names_kind kind (Name named reading) = is_kind named kind
+names_kind kind (Be check) = false
+names_kind kind (musts.List side) = false
+names_kind kind HaveWholeLines = false
+names_kind kind HaveDayLines = false
+
 -- those that a block has by the directive of a row
 abbrev pub named_by : NamedKind → Block → Asked → List (List ℕ)
 named_by kind block row = if kind_number block.kind == kind_number row.kind

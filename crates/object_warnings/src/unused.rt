@@ -1,17 +1,19 @@
 //! Objects and templates that nothing names (chapters "Object Definitions" and "Object Inheritance").
 
-ghost use Rattle.std.specs.Prelude.{◌≡◌, ◌++◌, codes, flat_map, length, map, slice_index_or, IfOk, OnOk};
+ghost use Rattle.std.specs.Prelude.{◌≡◌, ◌++◌, ◌∷◌, [], codes, flat_map, length, map, slice_index_or};
+ghost use Rattle.std.specs.Prelude.{IfOk, OnOk, if◌then◌else◌};
 ghost use Rattle.std.specs.Option.{option_copied};
 ghost use Rattle.object_check.specs.Rows.{said_by};
 ghost use Rattle.object_groups.specs.Objects.{objects_in};
 ghost use Rattle.object_inheritance.specs.Inherited.{is_additive, name_of, own_entries};
 ghost use Rattle.object_names.specs.Named.{block_kind};
+ghost use Rattle.object_reader.specs.declared.block.Block.{Block};
 ghost use Rattle.object_values.specs.Values.{command_name, texts};
 ghost use Rattle.object_warnings.specs.Numbers.{numbers_where};
 ghost use Rattle.object_warnings.specs.Unused.{has_unused_name, is_kind, is_named, is_template};
 ghost use Rattle.object_warnings.specs.Unused.{is_unused, is_unused_at, is_unused_template, joins};
 ghost use Rattle.object_warnings.specs.Unused.{named_by, named_in, named_of, names_by, names_given};
-ghost use Rattle.object_warnings.specs.Unused.{names_read, reads_all, used_in, used_of};
+ghost use Rattle.object_warnings.specs.Unused.{names_kind, names_read, reads_all, used_in, used_of};
 
 use crate::numbers::push_where;
 use object_check::rows::{Must, Row, name_rows};
@@ -170,6 +172,69 @@ fn push_named<'a>(
     Ok(())
 }
 
+/// Whether a directive that must be so names objects of the type.
+fn names_kind(kind: NamedKind, must: Must) -> bool
+    ensures { result ≡ names_kind kind must }
+{
+    match must {
+        Must::Name(named, _) => is_kind(named, kind),
+        Must::Be(_) => false,
+        Must::List(_) => false,
+        Must::HaveWholeLines => false,
+        Must::HaveDayLines => false,
+    }
+}
+
+/// Adds a row, where it is asked for.
+fn push_row(rows: &mut Vec<Row>, row: Row, asked: bool) -> Result<(), AllocError>
+    ensures { OnOk result (map said_by rows.new.items ≡ map said_by rows.old.items
+        ++ (if asked then said_by row.entry ∷ [] else [])) }
+{
+    if asked {
+        rows.push(row)?;
+        return Ok(());
+    }
+    Ok(())
+}
+
+/// Whether the directive of a row names objects of the type.
+fn is_row_of(kind: NamedKind, row: Row) -> bool
+    ensures { result ≡ names_kind kind (said_by row.entry).must }
+{
+    let (_, must, _) = row;
+    names_kind(kind, must)
+}
+
+/// The rows whose directives name objects of the type: no block has a name of one by any other.
+fn rows_of(alloc: Global, kind: NamedKind, all: &[Row]) -> Result<Vec<Row>, AllocError>
+    ensures { IfOk result (λ rows. (block : Block) → flat_map (named_by kind block) (map said_by rows.items)
+        ≡ flat_map (named_by kind block) (map said_by all.now)) }
+{
+    let mut rows = Vec::new(alloc);
+    for row in all {
+        let asked = is_row_of(kind, *row);
+        push_row(&mut rows, *row, asked)?;
+    }
+    Ok(rows)
+}
+
+/// What the blocks name of the type by these rows.
+fn named_by_rows<'a>(
+    alloc: Global,
+    blocks: &'a [Block],
+    kind: NamedKind,
+    rows: &[Row],
+) -> Result<Names<'a>, AllocError>
+    requires { (block : Block) → flat_map (named_by kind block) (map said_by rows.now) ≡ named_in kind block }
+    ensures { IfOk result (λ names. names ≡ named_of blocks.now kind) }
+{
+    let mut names = Vec::new(alloc);
+    for block in blocks {
+        push_named(alloc, &mut names, kind, block, rows)?;
+    }
+    Names::new(alloc, names)
+}
+
 /// What the blocks name of the type.
 fn named_of<'a>(
     alloc: Global,
@@ -178,11 +243,9 @@ fn named_of<'a>(
 ) -> Result<Names<'a>, AllocError>
     ensures { IfOk result (λ names. names ≡ named_of blocks.now kind) }
 {
-    let mut names = Vec::new(alloc);
-    for block in blocks {
-        push_named(alloc, &mut names, kind, block, name_rows())?;
-    }
-    Names::new(alloc, names)
+    let rows = rows_of(alloc, kind, name_rows())?;
+    let names = named_by_rows(alloc, blocks, kind, rows.as_slice())?;
+    Ok(names)
 }
 
 /// Whether `*` is all objects of the type.

@@ -1,15 +1,16 @@
 //! Which periods hold at each minute of a week, holidays apart (chapter "Time Periods").
 
-ghost use Rattle.std.specs.Prelude.{◌≡◌, ◌+◌, ◌<◌, ◌≤◌, [], length, map, slice_index_or, true, All, IfOk, Some};
+ghost use Rattle.std.specs.Prelude.{◌≡◌, ◌+◌, ◌-◌, ◌<◌, ◌≤◌, [], length, map, slice_index_or, true, All, IfOk, Some};
 ghost use Rattle.due_model.specs.Accepted.{IsAccepted};
 ghost use Rattle.due_model.specs.declared.config.Config.{Config};
 ghost use Rattle.due_model.specs.declared.zone.Zone.TheVariants.{Utc};
 ghost use Rattle.due_model.specs.Limits.{last_moment};
 ghost use Rattle.due_model.specs.Periods.{in_period};
-ghost use Rattle.object_warnings.specs.Hours.{AreEnds, Stays, flags_at, moment_of, plain, row_at};
-ghost use Rattle.object_warnings.specs.Hours.{rows_of, week, weekly};
+ghost use Rattle.object_warnings.specs.Hours.{AreEnds, IsUndated, Stays, flags_at, moment_of, plain, row_at};
+ghost use Rattle.object_warnings.specs.Hours.{rows_of, rows_upto, week, weekly};
 ghost use Rattle.time_period.specs.Days.{AreCompiled};
 
+use crate::steady::is_steady;
 use due_model::config::{Config, Period, PeriodId, Range};
 use due_model::dependencies::Dependencies;
 use due_model::escalations::Escalations;
@@ -138,17 +139,73 @@ fn flags_at(
     Ok(flags)
 }
 
-/// Which hold at each minute.
-fn rows_of(alloc: Global, periods: &[Compiled]) -> Result<Vec<Vec<bool>>, AllocError>
-    ensures long { IfOk result (λ rows. length rows.items ≡ week) }
+/// Which hold at a minute, where `last` says it of the minute before: a copy where no range begins or ends between them.
+fn flags_after(
+    alloc: Global,
+    periods: &[Compiled],
+    plain: &[Period],
+    clock: &ZoneClock<'_>,
+    last: &[bool],
+    minute: usize,
+) -> Result<Vec<bool>, AllocError>
+    requires clock { clock.now ≡ Utc }
+    requires some { 0 < minute }
+    requires within { minute < week }
+    requires plain { All IsUndated plain.now }
+    ensures { IfOk result (λ flags. (c : Config) → AreCompiled c periods.now → c.periods ≡ plain.now
+        → last.now ≡ flags_at c (minute - 1) → flags.items ≡ flags_at c minute) }
+{
+    if is_steady(plain, clock, moment_of(minute - 1), moment_of(minute)) {
+        let copy = Vec::from_slice(alloc, last)?;
+        return Ok(copy);
+    }
+    let flags = flags_at(alloc, periods, clock, minute)?;
+    Ok(flags)
+}
+
+/// The flags of a minute.
+fn row_of(rows: &[Vec<bool>], minute: usize) -> &[bool]
+    requires { minute < length rows.now }
+    ensures { result.now ≡ row_at (map (λ row. row.items) rows.now) minute }
+{
+    rows[minute].as_slice()
+}
+
+/// Those of the first minute.
+fn first_rows(
+    alloc: Global,
+    periods: &[Compiled],
+    clock: &ZoneClock<'_>,
+) -> Result<Vec<Vec<bool>>, AllocError>
+    requires { clock.now ≡ Utc }
+    ensures long { IfOk result (λ rows. length rows.items ≡ 1) }
     ensures rows { IfOk result (λ rows. (c : Config) → AreCompiled c periods.now
+        → map (λ row. row.items) rows.items ≡ rows_upto c 1) }
+{
+    let row = flags_at(alloc, periods, clock, 0)?;
+    let mut rows = Vec::with_capacity(alloc, WEEK)?;
+    rows.push(row)?;
+    Ok(rows)
+}
+
+/// Which hold at each minute. `plain` are the same periods, without dated lines.
+fn rows_of(
+    alloc: Global,
+    periods: &[Compiled],
+    plain: &[Period],
+) -> Result<Vec<Vec<bool>>, AllocError>
+    requires { All IsUndated plain.now }
+    ensures long { IfOk result (λ rows. length rows.items ≡ week) }
+    ensures rows { IfOk result (λ rows. (c : Config) → AreCompiled c periods.now → c.periods ≡ plain.now
         → map (λ row. row.items) rows.items ≡ rows_of c) }
 {
     let zone = Zone::Utc;
     let clock = ZoneClock::new(&zone);
-    let mut rows = Vec::with_capacity(alloc, WEEK)?;
-    for minute in 0..WEEK {
-        rows.push(flags_at(alloc, periods, &clock, minute)?)?;
+    let mut rows = first_rows(alloc, periods, &clock)?;
+    for minute in 1..WEEK {
+        let last = row_of(rows.as_slice(), minute - 1);
+        let row = flags_after(alloc, periods, plain, &clock, last, minute)?;
+        rows.push(row)?;
     }
     Ok(rows)
 }
@@ -240,11 +297,12 @@ impl Model for Week {
 impl Week {
     /// The week of a configuration's periods, which have no dated lines. It takes 10,080 bytes a period.
     pub(crate) fn new(alloc: Global, config: &Config) -> Result<Week, AllocError>
-        requires { IsAccepted config.now }
+        requires accepted { IsAccepted config.now }
+        requires plain { All IsUndated config.now.periods }
         ensures { IfOk result (λ made. made ≡ rows_of config.now) }
     {
         let periods = compile_all(alloc, config)?;
-        let rows = rows_of(alloc, periods.as_slice())?;
+        let rows = rows_of(alloc, periods.as_slice(), config.periods.as_slice())?;
         let ends = ends_of(alloc, rows.as_slice())?;
         Ok(Week { rows, ends })
     }

@@ -1,8 +1,7 @@
-use Rattle.object_values.specs.Values.{texts}
-use Rattle.object_warnings.proofs.UnusedLemmas.{named-more}
+use Rattle.std.proofs.Common.{ap, map}
+use Rattle.object_check.specs.Rows.{said_by}
+use Rattle.object_warnings.proofs.UnusedLemmas.{all-rows}
 use Rattle.object_warnings.proofs.unused.named_of.Goals as goal
 
-pub loop-block-preserved : goal.loop-block-preserved
-loop-block-preserved c =
-    named-more c.args.kind c.args.blocks.now c.loop-block.block-index c.block-item.result _ (texts c.loop-block.names.items) _ c.loop-block-test.true c.block-item.is c.loop-block.invariant
-    c.in_ok-push_named.ensures c.name_rows.ensures
+pub named_by_rows-requires : goal.named_by_rows-requires
+named_by_rows-requires c block = all-rows c.args.kind block _ _ _ (ap (map said_by) c.as_slice.ensures.value) (c.in_ok-rows.ensures block) c.name_rows.ensures

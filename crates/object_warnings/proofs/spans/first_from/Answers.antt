@@ -1,16 +1,16 @@
 use Rattle.std.proofs.Common.{◌≡◌, Bool, false, List, ap, arith, not, refl, sym, true, ◌∙◌}
-use Rattle.object_warnings.specs.Hours.{flag, is_gap, row_at}
+use Rattle.object_warnings.specs.Hours.{gap_by, row_at}
 use Rattle.object_warnings.proofs.HourLemmas.{as-unwanted, as-wanted, minutes-more}
-use Rattle.object_warnings.proofs.hours.first_from.Goals as goal
+use Rattle.object_warnings.proofs.spans.first_from.Goals as goal
 
 pub returns-then-is_as_wanted-clause-found : goal.returns-then-is_as_wanted-clause-found
 returns-then-is_as_wanted-clause-found c within =
-    let gap = λ (flags : List Bool). is_gap c.args.config.now (flag flags) c.args.number.0 c.args.object.now in
+    let gap = λ (flags : List Bool). gap_by flags c.args.period c.args.hours.now in
     sym (ap gap c.row.ensures) ∙ sym c.is_gap-gap.ensures ∙ as-wanted c.is_gap-gap.result c.args.wanted true c.if-is_as_wanted.ensures refl
 
 pub loop-minute-preserved : goal.loop-minute-preserved
 loop-minute-preserved c =
-    let gap = λ (flags : List Bool). is_gap c.args.config.now (flag flags) c.args.number.0 c.args.object.now in
+    let gap = λ (flags : List Bool). gap_by flags c.args.period c.args.hours.now in
     let here : gap (row_at c.args.all.now c.loop-minute.minute) ≡ not c.args.wanted = sym (ap gap c.row.ensures) ∙ sym c.is_gap-gap.ensures
     ∙ as-unwanted c.is_gap-gap.result c.args.wanted false c.if-is_as_wanted.ensures refl in
     record {

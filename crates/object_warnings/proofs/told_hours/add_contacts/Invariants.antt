@@ -1,0 +1,10 @@
+use Rattle.std.proofs.Common.{◌≡◌, ◌||◌, Bool, Option, take}
+use Rattle.std.specs.List.{list_any}
+use Rattle.due_model.specs.declared.config.PeriodId.{PeriodId}
+use Rattle.object_warnings.specs.Hours.{has_hours}
+use Rattle.object_warnings.proofs.told_hours.add_contacts.Given as goal
+
+-- The periods so far.
+abbrev pub invariant-loop-contact : goal.invariant-loop-contact
+invariant-loop-contact l = (holds : Option PeriodId → Bool) → list_any holds l.hours.items
+    ≡ (list_any holds l.fn.hours.items || list_any (has_hours l.config holds l.object) (take l.contact-index l.contacts))
