@@ -1,5 +1,5 @@
 -- How the lines begin that tell a fault.
-use Rattle.std.specs.Prelude.{◌≡◌, ℕ, List, ◌++◌, codes, slice_get}
+use Rattle.std.specs.Prelude.{ℕ, List, ◌++◌, codes, slice_get}
 use Rattle.std.specs.Fmt.{decimal}
 use Rattle.std.specs.Option.{option_map_or}
 use Rattle.faults_told.specs.Located.{file_of, number_of, source_of}
@@ -21,8 +21,3 @@ line_at blocks place = option_map_or (λ block. block.line) (slice_get blocks pl
 abbrev pub head_text : List Source → List Block → Telling → List ℕ
 head_text sources blocks telling =
     place_text sources (line_at blocks telling.holder) ++ fault_name telling.fault
-
--- Lines are added that begin so.
-pub record Tells (sources : List Source) (blocks : List Block) (telling : Telling) (old new : List ℕ) : Type 0 where
-  pub rest : List ℕ
-  pub is : new ≡ old ++ (head_text sources blocks telling ++ rest)

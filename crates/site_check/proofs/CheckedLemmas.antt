@@ -1,16 +1,13 @@
 -- What a check finds, by what loading answers.
-use Rattle.std.proofs.Common.{◌≡◌, ℕ, ◌<◌, Bool, true, false, cond, ◌&&◌, List, [], ◌∷◌, ◌++◌, Option, Some, None, Result, Ok, Err, refl, sym, ap, subst, ◌∙◌, ◌⊎◌, inl, inr, ⊎_elim, arith}
-use Rattle.std.specs.Prelude.{find, slice_get, ◌==◌}
+use Rattle.std.proofs.Common.{◌≡◌, ℕ, ◌<◌, Bool, true, false, cond, List, [], ◌∷◌, Option, Some, None, Result, Ok, Err, refl, sym, ap, subst, ◌∙◌, ◌⊎◌, inl, inr, ⊎_elim, arith}
+use Rattle.std.specs.Prelude.{find, slice_get}
 use Rattle.std.specs.Option.{option_map_or}
-use Rattle.std.specs.Str.{bytes_eq}
 use Rattle.std.proofs.lemmas.Bool.{false≢true}
 use Rattle.std.proofs.lemmas.Option.{none-some}
-use Rattle.std.proofs.lemmas.Slice.Eq.{bytes_eq-Decides}
 use Rattle.due_model.specs.declared.config.Config.{Config}
-use Rattle.faults_told.specs.Forms.{Tells, line_at, place_text}
+use Rattle.faults_told.specs.Texts.{telling_text}
 use Rattle.faults_told.specs.declared.located.Source.{Source}
 use Rattle.faults_told.specs.declared.telling.Telling.{Telling}
-use Rattle.object_faults.specs.LoadFaults.{fault_name}
 use Rattle.object_faults.specs.declared.load_fault.BlockFault.{BlockFault}
 use Rattle.object_faults.specs.declared.load_fault.LoadFault.{LoadFault}
 use Rattle.object_faults.specs.declared.load_fault.LoadFault.TheVariants as load
@@ -106,26 +103,12 @@ found-passes p (y ∷ ys) x is = by_test (p y) refl (λ there. found-passes p ys
     by_test true passes later here = ap p (sym (ap (λ (o : Option _). option_map_or (λ z. z) o y) here)) ∙ passes
     by_test false fails later there = later there
 
-both-right : (a b : Bool) → (a && b) ≡ true → b ≡ true
-both-right true b is = is
-both-right false b is = absurd (false≢true is)
-
--- the fault that is found is this one
-answer-name : (blocks : List Block) (line : ℕ) (fault : BlockFault) (telling : Telling) → is_answer blocks line fault telling ≡ true → fault_name telling.fault ≡ fault_name fault
-answer-name blocks line fault telling is = by_block (slice_get blocks telling.user) is
-  where
-    by_block : (found : Option Block) → option_map_or (λ block. block.line == line && bytes_eq (fault_name telling.fault) (fault_name fault)) found false ≡ true → fault_name telling.fault ≡ fault_name fault
-    by_block None lies = absurd (false≢true lies)
-    by_block (Some block) both = (bytes_eq-Decides (fault_name telling.fault) (fault_name fault)).0 (both-right (block.line == line) (bytes_eq (fault_name telling.fault) (fault_name fault)) both)
-
 -- what is told of it
 pub answer-told : (sources : List Source) (blocks : List Block) (line : ℕ) (fault : BlockFault) (tellings : List Telling) (telling : Telling) (lines : List ℕ)
-    → find (is_answer blocks line fault) tellings ≡ Some telling → Tells sources blocks telling [] lines → IsToldAlone sources (load.Block line fault) lines
-answer-told sources blocks line fault tellings telling lines found tells = inr (
-  line_at blocks telling.holder,
-  record {
-    rest = tells.rest;
-    is = tells.is ∙ ap (λ (name : List ℕ). place_text sources (line_at blocks telling.holder) ++ name ++ tells.rest)
-        (answer-name blocks line fault telling (found-passes (is_answer blocks line fault) tellings telling found));
-  },
-)
+    → find (is_answer blocks line fault) tellings ≡ Some telling → lines ≡ telling_text sources blocks telling → IsToldAlone sources (load.Block line fault) lines
+answer-told sources blocks line fault tellings telling lines found is = inr (record {
+  blocks = blocks;
+  telling = telling;
+  answers = found-passes (is_answer blocks line fault) tellings telling found;
+  is = is;
+})

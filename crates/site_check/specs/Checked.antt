@@ -1,16 +1,17 @@
 -- What a check of object text finds.
-use Rattle.std.specs.Prelude.{◌≡◌, ℕ, ◌⊎◌, List, [], ◌∷◌, ◌++◌, Some, slice_get}
+use Rattle.std.specs.Prelude.{◌≡◌, ℕ, ◌⊎◌, true, List, [], ◌∷◌, Some, slice_get}
 use Rattle.due_model.specs.declared.config.Config.{Config}
-use Rattle.faults_told.specs.Forms.{place_text}
+use Rattle.faults_told.specs.Texts.{telling_text}
 use Rattle.faults_told.specs.declared.located.Source.{Source}
-use Rattle.object_faults.specs.LoadFaults.{fault_name}
+use Rattle.faults_told.specs.declared.telling.Telling.{Telling}
+use Rattle.object_faults.specs.declared.load_fault.BlockFault.{BlockFault}
 use Rattle.object_faults.specs.declared.load_fault.LoadFault.{LoadFault}
 use Rattle.object_faults.specs.declared.load_fault.LoadFault.TheVariants as load
-use Rattle.object_reader.specs.Fault as reader
 use Rattle.object_reader.specs.Grammar.{IsObjectText}
 use Rattle.object_reader.specs.declared.block.Block.{Block}
 use Rattle.object_resolve.specs.Text.{IsTextFault, IsTextOf}
-use Rattle.site_check.specs.Faults.{AreTold}
+use Rattle.site_check.specs.Faults.{AreTold, is_answer}
+use Rattle.site_check.specs.Reports.{line_hint, line_plain}
 use Rattle.site_check.specs.Warnings.{IsOfFaulty, IsOfText}
 use Rattle.site_check.specs.declared.options.Form.{Form}
 
@@ -48,15 +49,17 @@ IsChecked form text told warnings = IsSound form text told warnings ⊎ IsFaulty
 
 -- ---- one fault alone
 
--- Lines are added that begin with the place of a line and the name of a fault.
-pub record AreLines (sources : List Source) (line : ℕ) (name old new : List ℕ) : Type 0 where
-  pub rest : List ℕ
-  pub is : new ≡ old ++ (place_text sources line ++ name ++ rest)
+-- the lines of a fault of blocks: of one that has the name of this fault, and whose block is at the line
+pub record IsToldOfBlock (sources : List Source) (line : ℕ) (fault : BlockFault) (lines : List ℕ) : Type 0 where
+  pub blocks : List Block
+  pub telling : Telling
+  pub answers : is_answer blocks line fault telling ≡ true
+  pub is : lines ≡ telling_text sources blocks telling
 
--- What is told of one fault: the place of its line, or of the block that holds the value, and its name.
+-- What is told of one fault: all that `check` tells of it. Of a fault of blocks it may be nothing.
 abbrev pub IsToldAlone : List Source → LoadFault → (lines : List ℕ) → Type 0
-IsToldAlone sources (load.Line line fault) lines = AreLines sources line (reader.fault_name fault) [] lines
-IsToldAlone sources (load.Block line fault) lines =
-    (lines ≡ []) ⊎ ((at : ℕ) × AreLines sources at (fault_name fault) [] lines)
+IsToldAlone sources (load.Line number fault) lines =
+    (line : List ℕ) × (lines ≡ line_plain sources number fault (line_hint line fault) line)
+IsToldAlone sources (load.Block line fault) lines = (lines ≡ []) ⊎ IsToldOfBlock sources line fault lines
 IsToldAlone sources load.TooLarge lines = lines ≡ []
 IsToldAlone sources load.NoMemory lines = ⊥

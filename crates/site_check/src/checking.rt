@@ -1,6 +1,6 @@
 //! The check of object text: all faults of the first pass that finds any, told one after another, and then the warnings.
 
-ghost use Rattle.std.specs.Prelude.{◌≡◌, ◌<◌, ◌∷◌, [], IfOk};
+ghost use Rattle.std.specs.Prelude.{◌≡◌, ◌<◌, ◌∷◌, ◌++◌, [], flat_map, IfOk, OnOk};
 ghost use Rattle.due_model.specs.Accepted.{IsAccepted};
 ghost use Rattle.due_model.specs.declared.config.Config.{Config};
 ghost use Rattle.object_faults.specs.declared.load_fault.LoadFault.TheVariants as load;
@@ -8,6 +8,8 @@ ghost use Rattle.object_resolve.specs.Resolve.{IsRefusal};
 ghost use Rattle.object_resolve.specs.Text.{IsTextFault, IsTextOf};
 ghost use Rattle.site_check.specs.Checked.{AreRefused, IsChecked, IsToldAlone};
 ghost use Rattle.site_check.specs.Faults.{AreTold};
+ghost use Rattle.site_check.specs.Reports.{IsReport, IsReportAlone, IsReportOf, IsReportOfText};
+ghost use Rattle.site_check.specs.Reports.{end_text, large_text, no_blocks, told_text};
 ghost use Rattle.site_check.specs.Warnings.{IsOfFaulty, IsOfText};
 
 use crate::all_faults::{answer, told_blocks};
@@ -50,6 +52,7 @@ fn sound(
     requires { IsAccepted config.now }
     ensures none { IfOk result (λ checked. (checked.faults ≡ 0) × (checked.told.items ≡ [])) }
     ensures warned { IfOk result (λ checked. IsOfText form.entry text.now config.now checked.warnings) }
+    ensures report { IfOk result (λ checked. IsReportOfText form.entry text.now checked.report.items 0 checked.warnings) }
 {
     let words = words_of(alloc, config)?;
     let mut report = Vec::new(alloc);
@@ -67,6 +70,7 @@ fn sound(
 fn only(alloc: Global, report: Vec<u8>, fault: LoadFault) -> Result<Checked, AllocError>
     ensures one { IfOk result (λ checked. (checked.faults ≡ 1) × (checked.warnings ≡ 0)) }
     ensures told { IfOk result (λ checked. checked.told.items ≡ fault ∷ []) }
+    ensures report { IfOk result (λ checked. checked.report.items ≡ report.items) }
 {
     let mut told = Vec::new(alloc);
     told.push(fault)?;
@@ -76,6 +80,14 @@ fn only(alloc: Global, report: Vec<u8>, fault: LoadFault) -> Result<Checked, All
         warnings: 0,
         told,
     })
+}
+
+/// Adds the last line of a report of a text that isn't blocks.
+fn push_end_alone(report: &mut Vec<u8>, form: Form<'_, '_>) -> Result<(), AllocError>
+    ensures { OnOk result (report.new.items ≡ report.old.items ++ end_text form.entry no_blocks 1 0) }
+{
+    push_end(report, form, b"no blocks", 1, 0)?;
+    Ok(())
 }
 
 /// The report of a text that isn't blocks: its first line with a fault.
@@ -88,35 +100,57 @@ fn unread(
 ) -> Result<Checked, AllocError>
     ensures one { IfOk result (λ checked. (checked.faults ≡ 1) × (checked.warnings ≡ 0)) }
     ensures told { IfOk result (λ checked. checked.told.items ≡ load.Line number fault ∷ []) }
+    ensures report { IfOk result (λ checked. IsReportAlone form.entry (load.Line number fault) checked.report.items) }
 {
     let mut report = Vec::new(alloc);
-    push_line_fault(
-        alloc,
-        &mut report,
-        form,
-        line_at(text, number),
-        number,
-        fault,
-    )?;
-    push_end(&mut report, form, b"no blocks", 1, 0)?;
+    push_line_fault(&mut report, form, line_at(text, number), number, fault)?;
+    push_end_alone(&mut report, form)?;
     let line = number;
-    only(alloc, report, LoadFault::Line { line, fault })
+    let alone = only(alloc, report, LoadFault::Line { line, fault })?;
+    Ok(alone)
+}
+
+/// The line that tells that a text is too large.
+fn large_text(form: Form<'_, '_>) -> &'static str
+    ensures { result.now ≡ large_text form.entry }
+{
+    if form.json {
+        "{\"fault\":\"TooLarge\"}\n"
+    } else {
+        "TooLarge\n"
+    }
 }
 
 /// The report of a text that is too large.
 fn too_large(alloc: Global, form: Form<'_, '_>) -> Result<Checked, AllocError>
     ensures one { IfOk result (λ checked. (checked.faults ≡ 1) × (checked.warnings ≡ 0)) }
     ensures told { IfOk result (λ checked. checked.told.items ≡ load.TooLarge ∷ []) }
+    ensures report { IfOk result (λ checked. IsReportAlone form.entry load.TooLarge checked.report.items) }
 {
     let mut report = Vec::new(alloc);
-    let line = if form.json {
-        "{\"fault\":\"TooLarge\"}\n"
+    push(&mut report, large_text(form))?;
+    push_end_alone(&mut report, form)?;
+    let alone = only(alloc, report, LoadFault::TooLarge)?;
+    Ok(alone)
+}
+
+/// Adds the lines that tell a fault.
+#[tactic(auto, unfolding(crate::specs::Reports::told_text))]
+fn push_told(
+    alloc: Global,
+    report: &mut Vec<u8>,
+    form: Form<'_, '_>,
+    blocks: &[Block],
+    telling: &Telling<'_>,
+) -> Result<(), AllocError>
+    ensures { OnOk result (report.new.items
+        ≡ report.old.items ++ told_text form.entry blocks.now telling.now) }
+{
+    if form.json {
+        push_json(alloc, report, form.sources, blocks, telling)
     } else {
-        "TooLarge\n"
-    };
-    push(&mut report, line)?;
-    push_end(&mut report, form, b"no blocks", 1, 0)?;
-    only(alloc, report, LoadFault::TooLarge)
+        push_telling(report, form.sources, blocks, telling)
+    }
 }
 
 /// Adds the lines that tell the faults.
@@ -126,13 +160,12 @@ fn push_tellings(
     form: Form<'_, '_>,
     blocks: &[Block],
     tellings: &[Telling<'_>],
-) -> Result<(), AllocError> {
+) -> Result<(), AllocError>
+    ensures { OnOk result (report.new.items
+        ≡ report.old.items ++ flat_map (told_text form.entry blocks.now) tellings.now) }
+{
     for telling in tellings {
-        if form.json {
-            push_json(alloc, report, form.sources, blocks, telling)?;
-        } else {
-            push_telling(alloc, report, form.sources, blocks, telling)?;
-        }
+        push_told(alloc, report, form, blocks, telling)?;
     }
     Ok(())
 }
@@ -149,6 +182,8 @@ fn refused(
     ensures told { IfOk result (λ checked. IsRefusal blocks.now line fault
         → AreTold blocks.now (load.Block line fault) checked.told.items) }
     ensures warned { IfOk result (λ checked. IsOfFaulty form.entry blocks.now checked.warnings) }
+    ensures report { IfOk result (λ checked. IsReportOf form.entry blocks.now checked.report.items
+        checked.faults checked.warnings) }
 {
     let told = told_blocks(alloc, blocks, line, fault)?;
     let tellings = told.tellings.as_slice();
@@ -179,6 +214,8 @@ fn refused_text(
     ensures some { IfOk result (λ checked. 0 < checked.faults) }
     ensures refused { IfOk result (λ checked. AreRefused form.entry text.now.items (load.Block line fault)
         checked.told.items checked.warnings) }
+    ensures report { IfOk result (λ checked. IsReportOfText form.entry text.now.items checked.report.items
+        checked.faults checked.warnings) }
 {
     match read(alloc, text) {
         Ok(blocks) => {
@@ -204,7 +241,7 @@ fn told_block(
     match answer(blocks, told.tellings.as_slice(), line, fault) {
         None => Ok(text),
         Some(telling) => {
-            push_telling(alloc, &mut text, sources, blocks, &telling)?;
+            push_telling(&mut text, sources, blocks, &telling)?;
             Ok(text)
         }
     }
@@ -221,7 +258,7 @@ fn told_line(
     ensures { IfOk result (λ lines. IsToldAlone sources.now (load.Line line fault) lines.items) }
 {
     let mut lines = Vec::new(alloc);
-    push_plain_line_fault(alloc, &mut lines, sources, line_at(text, line), line, fault)?;
+    push_plain_line_fault(&mut lines, sources, line_at(text, line), line, fault)?;
     Ok(lines)
 }
 
@@ -272,6 +309,9 @@ pub fn check(alloc: Global, form: Form<'_, '_>, text: Vec<u8>) -> Result<Checked
     // All faults of the pass that finds the first are told, the one that loading answers before all others, and the warnings
     // are counted, less those that are left out.
     ensures all { IfOk result (λ checked. IsChecked form.entry text.items checked.told.items checked.warnings) }
+    // The report is the lines of the faults and of the warnings, and the line that counts them.
+    ensures report { IfOk result (λ checked. IsReport form.entry text.items checked.report.items
+        checked.faults checked.warnings) }
 {
     let kept = Vec::from_slice(alloc, text.as_slice())?;
     match load(alloc, text) {

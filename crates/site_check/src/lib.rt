@@ -12,6 +12,7 @@ mod origins;
 mod warned;
 mod warned_config;
 mod warned_forms;
+mod warned_text;
 
 pub use checking::{Checked, Form, check, told};
 

@@ -1,15 +1,16 @@
 //! The faults of lines, as they are told.
 
-ghost use Rattle.std.specs.Prelude.{OnOk};
-ghost use Rattle.object_reader.specs.Fault.{fault_name};
-ghost use Rattle.site_check.specs.Checked.{AreLines};
+ghost use Rattle.std.specs.Prelude.{◌≡◌, ◌++◌, OnOk};
+ghost use Rattle.std.specs.Option.{option_copied};
+ghost use Rattle.site_check.specs.Reports.{has_mark, hint_json, hint_text, line_hint, line_json};
+ghost use Rattle.site_check.specs.Reports.{line_plain, line_text};
 
 use crate::options::Form;
 use faults_told::forms::{begin, push_member};
 use faults_told::located::Source;
 use faults_told::text_forms::{push, push_place, push_value};
 use object_reader::fault::LineFault;
-use std::alloc::{AllocError, Global};
+use std::alloc::AllocError;
 
 /// The line of that number, from 1; empty where there are fewer.
 pub(crate) fn line_at(text: &[u8], number: u64) -> &[u8] {
@@ -27,66 +28,138 @@ pub(crate) fn line_at(text: &[u8], number: u64) -> &[u8] {
     if left <= 1 { &text[start..] } else { &[] }
 }
 
+/// Whether a line begins with a byte order mark.
+fn has_mark(line: &[u8]) -> bool
+    ensures { result ≡ has_mark line.now }
+{
+    2 < line.len() && line[0] == 0xEF && line[1] == 0xBB && line[2] == 0xBF
+}
+
 /// What may be wrong with a line, in words; none where the line says it itself.
-fn line_hint(line: &[u8], fault: LineFault) -> Option<&'static str> {
-    match (line, fault) {
-        ([0xEF, 0xBB, 0xBF, ..], LineFault::NotADefine) => {
-            Some("the line begins with a byte order mark")
+fn line_hint(line: &[u8], fault: LineFault) -> Option<&'static str>
+    ensures { option_copied result ≡ line_hint line.now fault }
+{
+    match fault {
+        LineFault::NotADefine => {
+            if has_mark(line) {
+                Some("the line begins with a byte order mark")
+            } else {
+                None
+            }
         }
-        (_, LineFault::NotUtf8) => Some("the line isn't UTF-8; it may be Latin-1"),
-        (_, LineFault::Unclosed) => Some("its `}` is missing"),
-        (_, LineFault::LineTooLong) => Some("the line has more than 4,096 bytes"),
-        _ => None,
+        LineFault::NotUtf8 => Some("the line isn't UTF-8; it may be Latin-1"),
+        LineFault::Unclosed => Some("its `}` is missing"),
+        LineFault::LineTooLong => Some("the line has more than 4,096 bytes"),
+        LineFault::UnknownType => None,
+        LineFault::NoValue => None,
     }
 }
 
-/// What the line that tells what is wrong with a line says after its place and the fault's name.
-fn rest_of(alloc: Global, line: &[u8], fault: LineFault) -> Result<Vec<u8>, AllocError> {
-    let mut text = Vec::new(alloc);
-    push(&mut text, ": ")?;
-    match line_hint(line, fault) {
-        Some(words) => push(&mut text, words)?,
-        None => push_value(&mut text, line)?,
+/// Adds what is wrong with a line: words, or the line itself where there are none.
+fn push_hint(text: &mut Vec<u8>, hint: Option<&str>, line: &[u8]) -> Result<(), AllocError>
+    ensures { OnOk result (text.new.items ≡ text.old.items ++ hint_text (option_copied hint.entry) line.now) }
+{
+    match hint {
+        None => push_value(text, line),
+        Some(words) => push(text, words),
     }
-    text.push(b'\n')?;
-    Ok(text)
 }
 
-/// Adds the line that tells what is wrong with a line: it begins with its place and the fault's name.
+/// Adds the line that tells what is wrong with a line.
+#[tactic(auto, unfolding(crate::specs::Reports::line_plain))]
+fn push_line_plain(
+    text: &mut Vec<u8>,
+    sources: &[Source<'_>],
+    number: u64,
+    fault: LineFault,
+    hint: Option<&str>,
+    line: &[u8],
+) -> Result<(), AllocError>
+    ensures { OnOk result (text.new.items
+        ≡ text.old.items ++ line_plain sources.now number fault (option_copied hint.entry) line.now) }
+{
+    push_place(text, sources, number)?;
+    push(text, fault.name())?;
+    push(text, ": ")?;
+    push_hint(text, hint, line)?;
+    push(text, "\n")?;
+    Ok(())
+}
+
+/// Adds what is wrong with a line as a member, if there are words for it.
+fn push_hint_member(text: &mut Vec<u8>, hint: Option<&str>) -> Result<(), AllocError>
+    ensures { OnOk result (text.new.items ≡ text.old.items ++ hint_json (option_copied hint.entry)) }
+{
+    match hint {
+        None => Ok(()),
+        Some(words) => push_member(text, "detail", words.as_bytes()),
+    }
+}
+
+/// Adds the line that tells what is wrong with a line: an object of JSON.
+#[tactic(auto, unfolding(crate::specs::Reports::line_json))]
+fn push_line_json(
+    text: &mut Vec<u8>,
+    sources: &[Source<'_>],
+    number: u64,
+    fault: LineFault,
+    hint: Option<&str>,
+) -> Result<(), AllocError>
+    ensures { OnOk result (text.new.items
+        ≡ text.old.items ++ line_json sources.now number fault (option_copied hint.entry)) }
+{
+    begin(text, sources, number)?;
+    push_member(text, "fault", fault.name().as_bytes())?;
+    push_hint_member(text, hint)?;
+    push(text, "}\n")?;
+    Ok(())
+}
+
+/// Adds what is wrong with a line: it begins with its place and the fault's name.
 pub(crate) fn push_plain_line_fault(
-    alloc: Global,
     text: &mut Vec<u8>,
     sources: &[Source<'_>],
     line: &[u8],
     number: u64,
     fault: LineFault,
 ) -> Result<(), AllocError>
-    ensures { OnOk result
-        (AreLines sources.now number (fault_name fault) text.old.items text.new.items) }
+    ensures { OnOk result (text.new.items ≡ text.old.items
+        ++ line_plain sources.now number fault (line_hint line.now fault) line.now) }
 {
-    push_place(text, sources, number)?;
-    push(text, fault.name())?;
-    let rest = rest_of(alloc, line, fault)?;
-    text.extend_from_slice(rest.as_slice())?;
+    push_line_plain(text, sources, number, fault, line_hint(line, fault), line)?;
     Ok(())
+}
+
+/// Adds what is wrong with a line, as text or as an object.
+#[tactic(auto, unfolding(crate::specs::Reports::line_text))]
+fn push_line_text(
+    text: &mut Vec<u8>,
+    form: Form<'_, '_>,
+    number: u64,
+    fault: LineFault,
+    hint: Option<&str>,
+    line: &[u8],
+) -> Result<(), AllocError>
+    ensures { OnOk result (text.new.items
+        ≡ text.old.items ++ line_text form.entry number fault (option_copied hint.entry) line.now) }
+{
+    if form.json {
+        push_line_json(text, form.sources, number, fault, hint)
+    } else {
+        push_line_plain(text, form.sources, number, fault, hint, line)
+    }
 }
 
 /// Adds what is wrong with a line.
 pub(crate) fn push_line_fault(
-    alloc: Global,
     text: &mut Vec<u8>,
     form: Form<'_, '_>,
     line: &[u8],
     number: u64,
     fault: LineFault,
-) -> Result<(), AllocError> {
-    if !form.json {
-        return push_plain_line_fault(alloc, text, form.sources, line, number, fault);
-    }
-    begin(text, form.sources, number)?;
-    push_member(text, "fault", fault.name().as_bytes())?;
-    if let Some(words) = line_hint(line, fault) {
-        push_member(text, "detail", words.as_bytes())?;
-    }
-    push(text, "}\n")
+) -> Result<(), AllocError>
+    ensures { OnOk result (text.new.items ≡ text.old.items
+        ++ line_text form.entry number fault (line_hint line.now fault) line.now) }
+{
+    push_line_text(text, form, number, fault, line_hint(line, fault), line)
 }

@@ -1,10 +1,12 @@
-use Rattle.std.proofs.Common.{◌≡◌, ◌⊎◌, List, refl, rules, subst, ℕ}
+use Rattle.std.proofs.Common.{◌≡◌, ◌⊎◌, List, inl, refl, rules, subst, sym, ℕ}
 use Rattle.object_faults.specs.declared.load_fault.LoadFault.{LoadFault}
 use Rattle.object_faults.specs.declared.load_fault.LoadFault.TheVariants as load
 use Rattle.object_resolve.specs.Text.{IsTextFault}
 use Rattle.site_check.specs.Checked.{AreRefused}
+use Rattle.site_check.specs.Reports.{IsReport, IsReportOfText}
 use Rattle.site_check.specs.Warnings.{IsOfText}
 use Rattle.site_check.proofs.CheckedLemmas.{block-checked, large-checked, line-checked, memory-lies, sound-checked, text-fault}
+use Rattle.site_check.proofs.ReportLemmas.{report-alone}
 use Rattle.site_check.proofs.checking.check.Goals as goal
 
 pub returns-in-Ok-clause-all : goal.returns-in-Ok-clause-all
@@ -45,3 +47,28 @@ returns-clause-all c =
     (subst (λ (f : LoadFault). (f ≡ load.NoMemory) ⊎ IsTextFault c.args.text.items f) c.in-Err-Block.field-0-is c.in-Err-Block.ensures.fault)
     (subst (λ (t : List ℕ). AreRefused c.args.form t (load.Block c.in-Err-Block.line c.in-Err-Block.fault) c.in_ok-broken-in-Err-Block.broken.told.items c.in_ok-broken-in-Err-Block.broken.warnings)
     (search rules) c.in_ok-broken-in-Err-Block.ensures.refused)
+
+pub returns-in-Ok-clause-report : goal.returns-in-Ok-clause-report
+returns-in-Ok-clause-report c =
+    let checked = c.in_ok-free-in-Ok.free in
+    subst (λ (n : ℕ). IsReport c.args.form c.args.text.items checked.report.items n checked.warnings) (sym c.in_ok-free-in-Ok.ensures.none.0)
+    (inl (subst (λ (t : List ℕ). IsReportOfText c.args.form t checked.report.items 0 checked.warnings) (search rules) c.in_ok-free-in-Ok.ensures.report))
+
+pub returns-in-Err-TooLarge-clause-report : goal.returns-in-Err-TooLarge-clause-report
+returns-in-Err-TooLarge-clause-report c =
+    report-alone c.args.form c.args.text.items _ load.TooLarge _ _
+    (text-fault c.args.text.items load.TooLarge refl
+    (subst (λ (f : LoadFault). (f ≡ load.NoMemory) ⊎ IsTextFault c.args.text.items f) c.in-Err-TooLarge.field-0-is c.in-Err-TooLarge.ensures.fault))
+    c.in_ok-large-in-Err-TooLarge.ensures.report
+
+pub returns-in-Err-Line-clause-report : goal.returns-in-Err-Line-clause-report
+returns-in-Err-Line-clause-report c =
+    report-alone c.args.form c.args.text.items _ (load.Line c.in-Err-Line.line c.in-Err-Line.fault) _ _
+    (text-fault c.args.text.items (load.Line c.in-Err-Line.line c.in-Err-Line.fault) refl
+    (subst (λ (f : LoadFault). (f ≡ load.NoMemory) ⊎ IsTextFault c.args.text.items f) c.in-Err-Line.field-0-is c.in-Err-Line.ensures.fault))
+    c.in_ok-plain-in-Err-Line.ensures.report
+
+pub returns-clause-report : goal.returns-clause-report
+returns-clause-report c =
+    let checked = c.in_ok-broken-in-Err-Block.broken in
+    inl (subst (λ (t : List ℕ). IsReportOfText c.args.form t checked.report.items checked.faults checked.warnings) (search rules) c.in_ok-broken-in-Err-Block.ensures.report)

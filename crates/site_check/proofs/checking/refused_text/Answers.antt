@@ -4,6 +4,7 @@ use Rattle.object_reader.specs.declared.block.Block.{Block}
 use Rattle.object_resolve.specs.Resolve.{IsRefusal}
 use Rattle.site_check.specs.Checked.{AreRefused}
 use Rattle.site_check.specs.Faults.{AreTold}
+use Rattle.site_check.specs.Reports.{IsReportOf, IsReportOfText}
 use Rattle.site_check.specs.Warnings.{IsOfFaulty}
 use Rattle.site_check.proofs.CheckedLemmas.{blocks-refused}
 use Rattle.site_check.proofs.checking.refused_text.Goals as goal
@@ -16,3 +17,13 @@ returns-in_ok-checked-in-Ok-clause-refused c =
     subst (λ (t : List ℕ). AreRefused c.args.form t (load.Block c.args.line c.args.fault) c.in_ok-checked-in-Ok.checked.told.items c.in_ok-checked-in-Ok.checked.warnings) (search rules)
     (blocks-refused c.args.form c.deref.result.now c.args.line c.args.fault (Ok c.in-Ok.blocks) c.in-Ok.blocks c.in_ok-checked-in-Ok.checked.told.items c.in_ok-checked-in-Ok.checked.warnings
     refl c.in-Ok.ensures.only c.in-Ok.ensures.blocks (search rules) told warned)
+
+pub returns-in_ok-checked-in-Ok-clause-report : goal.returns-in_ok-checked-in-Ok-clause-report
+returns-in_ok-checked-in-Ok-clause-report c =
+    let checked = c.in_ok-checked-in-Ok.checked in
+    subst (λ (t : List ℕ). IsReportOfText c.args.form t checked.report.items checked.faults checked.warnings) (search rules)
+    (record {
+      blocks = c.in-Ok.blocks;
+      text_is = c.in-Ok.ensures.blocks;
+      report_is = subst (λ (bs : List Block). IsReportOf c.args.form bs checked.report.items checked.faults checked.warnings) c.as_slice.ensures c.in_ok-checked-in-Ok.ensures.report;
+    })
