@@ -3,7 +3,8 @@
 #
 #     awk -f examples/feed-from-log.awk examples/nagios.log
 #
-# A log begins with the state of each host and service (INITIAL or CURRENT); those that are hard and no recovery go into the feed.
+# A log begins with the state of each host and service (INITIAL or CURRENT). One that is hard goes into the feed where it isn't
+# known already: a problem that lasts, or one that ended while nobody wrote the log.
 # Nagios says that a downtime started once more after it was started itself anew: that is left out, and so is the end of one that
 # nothing has started. The end of flapping detection ends flapping.
 #
@@ -32,6 +33,13 @@ function downtime(said, key) {
     }
 }
 
+# The hard state of the host or service so far.
+function known(key) {
+    key = what ";" about
+    if (key in state) return state[key]
+    return what == "HOST" ? "UP" : "OK"
+}
+
 match($0, /^\[[0-9]+\] /) {
     now = substr($0, 2, RLENGTH - 3) + 0
     rest = substr($0, RLENGTH + 1)
@@ -58,5 +66,8 @@ match($0, /^\[[0-9]+\] /) {
     said = what == "HOST" ? 2 : 3
     if (title ~ /DOWNTIME/) downtime(field[said])
     else if (title ~ /FLAPPING/) tell("FLAPPING", field[said] == "STARTED" ? "START" : "STOP")
-    else if (field[said + 1] == "HARD" && !(title ~ /STATE$/ && field[said] ~ /^(UP|OK)$/)) tell("STATE", field[said])
+    else if (field[said + 1] == "HARD" && (title !~ /STATE$/ || field[said] != known())) {
+        state[what ";" about] = field[said]
+        tell("STATE", field[said])
+    }
 }

@@ -15,7 +15,7 @@ from kit import rt  # noqa: E402
 PROGRAM = "notify_run"
 # Measured: how many minutes of one processor all proofs of the libraries and the program take, and those along the longest chain of crates, which no number of processors
 # shortens much.
-PROOFS, CHAIN = 110, 35
+PROOFS, CHAIN = 230, 64
 
 
 class Progress:
