@@ -15,16 +15,16 @@ _notify_run() {
             mapfile -t COMPREPLY < <(compgen -f -- "$word")
             return
             ;;
-        "replay --only" | "replay --object" | "replay --contact" | "replay --zone" | "trace --deciders" | "trace --standbys" | "trace --queue" | "trace --tries" | "trace --zone" | "run --deciders" | "run --queue" | "run --tries" | "run --timeout" | "run --pause" | "run --ahead" | "run --state" | "run --in-doubt" | "run --zone" | "who --at" | "who --for" | "who --down" | "who --zone" | "diff --zone" | "why --object" | "why --contact" | "why --from" | "why --to" | "why --zone" | "check --allow" | "check --zone") return ;;
+        "replay --only" | "replay --object" | "replay --contact" | "replay --zone" | "replay --choose" | "trace --deciders" | "trace --standbys" | "trace --queue" | "trace --tries" | "trace --zone" | "trace --choose" | "run --deciders" | "run --queue" | "run --tries" | "run --timeout" | "run --pause" | "run --ahead" | "run --state" | "run --in-doubt" | "run --zone" | "run --choose" | "who --at" | "who --for" | "who --down" | "who --zone" | "who --choose" | "diff --zone" | "diff --choose" | "why --object" | "why --contact" | "why --from" | "why --to" | "why --zone" | "why --choose" | "check --allow" | "check --zone") return ;;
     esac
     case "$command" in
         "") words="replay trace run who diff why check -h --help -V --version" ;;
-        replay) words="--objects --only --object --contact --json --pretty --picture --zone --zone-file -h --help" ;;
-        trace) words="--deciders --standbys --queue --tries --zone --zone-file -h --help" ;;
-        run) words="--objects --deciders --queue --tries --timeout --pause --ahead --log --fold --metrics --json --quiet --feed --follow --clock --state --in-doubt --from-now --zone --zone-file -h --help" ;;
-        who) words="--objects --at --for --down --json --zone --zone-file -h --help" ;;
-        diff) words="--objects --with --json --zone --zone-file -h --help" ;;
-        why) words="--objects --object --contact --from --to --json --zone --zone-file -h --help" ;;
+        replay) words="--objects --only --object --contact --json --pretty --picture --zone --zone-file --as-nagios --nagios --choose -h --help" ;;
+        trace) words="--deciders --standbys --queue --tries --zone --zone-file --as-nagios --nagios --choose -h --help" ;;
+        run) words="--objects --deciders --queue --tries --timeout --pause --ahead --log --fold --metrics --json --quiet --feed --follow --clock --state --in-doubt --from-now --zone --zone-file --as-nagios --nagios --choose -h --help" ;;
+        who) words="--objects --at --for --down --json --zone --zone-file --as-nagios --nagios --choose -h --help" ;;
+        diff) words="--objects --with --json --zone --zone-file --as-nagios --nagios --choose -h --help" ;;
+        why) words="--objects --object --contact --from --to --json --zone --zone-file --as-nagios --nagios --choose -h --help" ;;
         check) words="--objects --allow --strict --json --zone --zone-file -h --help" ;;
     esac
     mapfile -t COMPREPLY < <(compgen -W "$words" -- "$word")

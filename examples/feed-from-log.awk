@@ -1,4 +1,4 @@
-# Makes a feed of a Nagios log: hard states, downtimes, flapping, acknowledgements, the switches of notifications, and a clock
+# Makes a feed of a Nagios log: hard states, downtimes, flapping, acknowledgements and their removal, the switches of notifications, and a clock
 # line for each minute between them.
 #
 #     awk -f examples/feed-from-log.awk examples/nagios.log
@@ -8,8 +8,8 @@
 # Nagios says that a downtime started once more after it was started itself anew: that is left out, and so is the end of one that
 # nothing has started. The end of flapping detection ends flapping.
 #
-# Of these the feed has no word: soft states, what was sent, a switch of one object, an acknowledgement that is taken back, notices
-# that somebody delays or sends by hand. Where a night has one of them, `replay` may tell otherwise than Nagios did.
+# Of these the feed has no word: soft states, what was sent, notices that somebody delays or sends by hand. Where a night has one of
+# them, `replay` may tell otherwise than Nagios did.
 
 # The clock up to that moment, minute by minute.
 function clock(now) {
@@ -52,11 +52,20 @@ match($0, /^\[[0-9]+\] /) {
             clock(now)
             print "[" now "] " field[1]
         }
-        # (2 is sticky; the words after it say who is told, and of what)
+        # (2 is sticky; the next word says whether contacts are told)
         if (field[1] == "ACKNOWLEDGE_HOST_PROBLEM" || field[1] == "ACKNOWLEDGE_SVC_PROBLEM") {
             what = field[1] ~ /HOST/ ? "HOST" : "SERVICE"
             about = what == "HOST" ? field[2] : field[2] ";" field[3]
-            tell("ACK", field[what == "HOST" ? 3 : 4] == 2 ? "STICKY" : "NORMAL")
+            clock(now)
+            at = what == "HOST" ? 3 : 4
+            tell("ACK", (field[at] == 2 ? "STICKY" : "NORMAL") (field[at + 1] == 1 ? ";NOTIFY" : ""))
+        }
+        if (field[1] ~ /^(REMOVE_(HOST|SVC)_ACKNOWLEDGEMENT|(ENABLE|DISABLE)_(HOST|SVC)_NOTIFICATIONS)$/) {
+            what = field[1] ~ /_HOST_/ ? "HOST" : "SERVICE"
+            about = what == "HOST" ? field[2] : field[2] ";" field[3]
+            clock(now)
+            if (field[1] ~ /^REMOVE/) tell("ACK", "NONE")
+            else tell("NOTIFICATIONS", field[1] ~ /^ENABLE/ ? "ON" : "OFF")
         }
         next
     }

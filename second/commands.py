@@ -18,10 +18,10 @@ def parted(data, mark):
     return (before + b"\n", after) if found else (data, b"")
 
 
-def replay(data):
+def replay(data, choices=()):
     objects, feed = parted(data, b"%events")
     try:
-        configuration = Configuration(read(objects))
+        configuration = Configuration(read(objects, "text" in choices), choices)
     except Refused as refusal:
         return 1, [], str(refusal)
     rules, status = Rules(configuration), 0
@@ -34,10 +34,10 @@ def replay(data):
     return status, rules.lines, ""
 
 
-def trace(data, deciders, queue, tries, standbys):
+def trace(data, deciders, queue, tries, standbys, choices=()):
     objects, rest = parted(data, b"%events")
     feed, steps = parted(rest, b"%steps")
-    configuration = Configuration(read(objects))
+    configuration = Configuration(read(objects, "text" in choices), choices)
     given = list(answers(configuration, feed))
     lines = [f"R;{number};{fault}" for number, _, fault in given if fault]
     world = World(configuration, [event for _, event, fault in given if not fault], deciders, queue, tries, standbys)

@@ -51,6 +51,7 @@ class Object:
     interval: int
     delay: int
     contacts: list
+    volatile: bool = False
 
 
 @dataclass
@@ -108,6 +109,8 @@ def reached(starts, ends):
 
 class Names(Site):
     """The registered blocks by their names, and what lists of names mean, where no template has a fault."""
+    # The fields in which the daemon's rule decides.
+    choices = frozenset()
 
     def __init__(self, blocks):
         super().__init__(blocks)
@@ -236,7 +239,7 @@ class Checked(Names):
             return "BadOption"
         if any(line.name in DAYS and ranges_in(line.value) is None for line in lines) or any(self.is_bad_line(line) for line in dated):
             return "BadRange"
-        if kind == "service" and number_in(self.value(place, "is_volatile") or "0") != 0:
+        if kind == "service" and "text" not in self.choices and number_in(self.value(place, "is_volatile") or "0") != 0:
             return "Volatile"
         if any(entry.startswith("!") for name in lists for entry in self.list(place, name) or []):
             return "Exclusion"
@@ -287,9 +290,11 @@ class Checked(Names):
 
 
 class Configuration(Checked):
-    """Objects, contacts, lanes, periods, escalations and dependencies, each by its number. Limits aren't looked at."""
+    """Objects, contacts, lanes, periods, escalations and dependencies, each by its number. Limits aren't looked at. The choices are the
+    fields in which the daemon's rule decides."""
 
-    def __init__(self, blocks):
+    def __init__(self, blocks, choices=()):
+        self.choices = frozenset(choices)
         super().__init__(blocks)
         self.period_numbers = {self.name(place): number for number, place in enumerate(self.of("timeperiod"))}
         self.periods = [self.period_of(place) for place in self.of("timeperiod")]
@@ -322,9 +327,9 @@ class Configuration(Checked):
         value = self.value(place, name)
         return default if value is None else number_in(value)
 
-    def options(self, place, name, kind, of_escalation=False):
+    def options(self, place, name, kind, of_escalation=False, unlisted=ALL_LETTERS):
         value = self.value(place, name)
-        return ALL_LETTERS if value is None else options_in(value, kind, of_escalation)
+        return unlisted if value is None else options_in(value, kind, of_escalation)
 
     def period(self, place, name, default=None):
         """The number of a period; none is always."""
@@ -346,7 +351,9 @@ class Configuration(Checked):
 
     def rights(self, place, kind):
         lanes = sorted(self.lanes.index(name) for name in self.commands(place, kind))
-        return Rights(self.number(place, f"{kind}_notifications_enabled", 1) != 0, self.options(place, f"{kind}_notification_options", kind),
+        unlisted = frozenset() if "contact_none" in self.choices else ALL_LETTERS
+        return Rights(self.number(place, f"{kind}_notifications_enabled", 1) != 0,
+                      self.options(place, f"{kind}_notification_options", kind, unlisted=unlisted),
                       self.period(place, f"{kind}_notification_period"), lanes)
 
     def add_object(self, place, host):
@@ -360,7 +367,8 @@ class Configuration(Checked):
             None if on is None else self.numbers[host], self.number(place, "notifications_enabled", 1) != 0,
             self.options(place, "notification_options", "host" if on is None else "service"),
             self.period(place, "notification_period", on and on.period), self.number(place, "notification_interval", on.interval if on else 30),
-            self.number(place, "first_notification_delay", 0), own if own is not None else on.contacts if on else []))
+            self.number(place, "first_notification_delay", 0), own if own is not None else on.contacts if on else [],
+            on is not None and self.number(place, "is_volatile", 0) != 0))
 
     def places_of(self, number):
         """Where the block of an object stands, and the block of its host, which is a host's own."""

@@ -4,7 +4,8 @@ import re
 WORDS = {"HOST_STATE": ("UP", "DOWN", "UNREACHABLE"), "SERVICE_STATE": ("OK", "WARNING", "UNKNOWN", "CRITICAL")}
 WORDS |= {f"{of}_DOWNTIME": ("START", "END", "CANCELLED") for of in ("HOST", "SERVICE")}
 WORDS |= {f"{of}_FLAPPING": ("START", "STOP") for of in ("HOST", "SERVICE")}
-WORDS |= {f"{of}_ACK": ("STICKY", "NORMAL") for of in ("HOST", "SERVICE")}
+WORDS |= {f"{of}_ACK": ("STICKY", "NORMAL", "NONE") for of in ("HOST", "SERVICE")}
+WORDS |= {f"{of}_NOTIFICATIONS": ("ON", "OFF") for of in ("HOST", "SERVICE")}
 PLAIN = ("CLOCK", "ENABLE_NOTIFICATIONS", "DISABLE_NOTIFICATIONS")
 LAST_MOMENT, MOST_OF_A_LINE = 32_503_679_999, 4_096
 
@@ -23,16 +24,21 @@ def event_in(configuration, line):
     name, *arguments = text[stamp.end():].split(";")
     if name not in WORDS and name not in PLAIN:
         return None, "UnknownKind"
-    if len(arguments) != (0 if name in PLAIN else 2 if name.startswith("HOST") else 3):
+    count = 0 if name in PLAIN else 2 if name.startswith("HOST") else 3
+    # Behind the word of an acknowledgement this one may stand.
+    told = name.endswith("_ACK") and len(arguments) == count + 1 and arguments[count] == "NOTIFY"
+    if len(arguments) != count + told:
         return None, "BadState"
     if name in PLAIN:
         return (int(stamp[1]), name), None
-    *names, word = arguments
+    *names, word = arguments[:count]
     number = configuration.find(*names)
     if number is None:
         return None, "UnknownObject"
-    if word not in WORDS[name]:
+    if word not in WORDS[name] or told and word == "NONE":
         return None, "BadState"
+    if told:
+        return (int(stamp[1]), "TOLD_ACK", number, word), None
     return (int(stamp[1]), name.split("_")[1], number, word), None
 
 

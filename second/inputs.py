@@ -227,6 +227,11 @@ class Site:
                 self.add("servicedependency", lists + self.use("servicedependency") + self.dependency("service"))
 
     def line(self, name, value):
+        if self.chance(self.oddity / 3):
+            return f" {name}" + (" ; note" if self.odd() else "")
+        if self.chance(self.oddity / 3):
+            name = self.draw.choice(["host", "hosts", "hostgroup", "hostgroups", "host_groups", "service_groups", "description", "contact_groups", "master_host",
+                                     "dependent_host", "dependent_description", "notification_failure_options", name])
         line = f" {name}{self.draw.choice([' ', chr(9), '  '])}{value}"
         if self.chance(0.03) and "," in line:
             line = line.replace(",", ",\\\n   ", 1)
@@ -266,10 +271,12 @@ class Site:
             return f"{kind}_FLAPPING;{name};{self.draw.choice(['START', 'STOP'])}"
         if what < 0.87:
             return self.draw.choice(["ENABLE_NOTIFICATIONS", "ENABLE_NOTIFICATIONS", "DISABLE_NOTIFICATIONS"])
-        if what < 0.96:
-            return f"{kind}_ACK;{name};{self.draw.choice(['STICKY', 'NORMAL'])}"
+        if what < 0.95:
+            return f"{kind}_ACK;{name};{self.draw.choice(['STICKY', 'NORMAL', 'NONE', 'STICKY;NOTIFY', 'NORMAL;NOTIFY'])}"
+        if what < 0.97:
+            return f"{kind}_NOTIFICATIONS;{name};{self.draw.choice(['ON', 'ON', 'OFF'])}"
         return self.draw.choice(["NOPE", "CLOCK;", "HOST_STATE;zz;UP", f"HOST_STATE;{host};OK", f"HOST_STATE;{host}",
-                                 f"SERVICE_STATE;{host};UP", "HOST_STATE;zz;XX", f"HOST_DOWNTIME;{host};STOP", f"HOST_ACK;{host};2"])
+                                 f"SERVICE_STATE;{host};UP", "HOST_STATE;zz;XX", f"HOST_DOWNTIME;{host};STOP", f"HOST_ACK;{host};2", f"HOST_ACK;{host};NONE;NOTIFY", f"HOST_ACK;zz;NORMAL;NOTIFY", f"HOST_STATE;{host};UP;NOTIFY", f"HOST_NOTIFICATIONS;{host};NONE"])
 
     def feed(self, begin):
         """A feed from this moment on; a line of a hundred has no stamp, and a feed of thirty is cut."""

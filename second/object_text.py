@@ -1,6 +1,7 @@
 """Object text: its lines, its blocks, and the first fault that a text has."""
 import re
 from dataclasses import dataclass, field
+from nagios_text import day_value, is_lone, standard, without_value
 
 TYPES = """host hostgroup service servicegroup contact contactgroup timeperiod command hostescalation serviceescalation
 hostdependency servicedependency hostextinfo serviceextinfo""".split()
@@ -34,7 +35,7 @@ class Block:
 
 
 def joined_lines(data):
-    """Gives each joined line with the number of its first physical line."""
+    """Gives each joined line with the number of its first physical line, and whether that is all of it."""
     physical = data.split(b"\n")
     ended = len(physical) - 1
     if physical[-1] == b"":
@@ -55,7 +56,7 @@ def joined_lines(data):
             line = line.removesuffix(b"\\")
             text += line if place + 1 == first else line.lstrip(BLANKS.encode())
             place += 1
-        yield first, text.decode()
+        yield first, text.decode(), place == first
 
 
 def meant(text):
@@ -66,7 +67,8 @@ def meant(text):
     return re.split(r"(?<!\\);", text, maxsplit=1)[0].strip(BLANKS).replace("\\;", ";")
 
 
-def directive(kind, text, line):
+def directive(kind, text, line, lone):
+    """The directive that a line of a block is; none where Nagios reads it as nothing. A `lone` one may be without a value."""
     words = re.split(r"[ \t]+", text)
     with_colon = [place for place, word in enumerate(words) if ":" in word]
     is_day_line = kind == "timeperiod" and (words[0] in DAY_WORDS or words[0][0] in "0123456789")
@@ -74,17 +76,26 @@ def directive(kind, text, line):
         place = with_colon[0] if with_colon else len(words)
         return Directive(" ".join(words[:place]), "".join(words[place:]), bool(with_colon), line)
     value = text[len(words[0]):].strip(BLANKS)
-    if not value:
+    if not value and not (lone and is_lone(text) and not (words[0] in DAY_WORDS or words[0][0] in "0123456789")):
         raise Refused("NoValue", line)
     return Directive(words[0], value, bool(with_colon), line)
 
 
-def read(data):
-    """The blocks of a text."""
+def as_nagios(kind, it):
+    """What Nagios reads in a directive; none where that is nothing."""
+    name = standard(kind, it.name)
+    value = it.value or without_value(kind, name)
+    if kind == "timeperiod" and (name in DAY_WORDS[1:8] or name.split(" ")[0] in DAY_WORDS or name[0] in "0123456789"):
+        value = day_value(value)
+    return None if value is None else Directive(name, value, it.has_colon, it.line)
+
+
+def read(data, nagios=False):
+    """The blocks of a text, as this project reads it or as Nagios does."""
     if len(data) > MOST_BYTES:
         raise Refused("TooLarge")
     blocks, block = [], None
-    for line, joined in joined_lines(data):
+    for line, joined, is_one in joined_lines(data):
         text = meant(joined)
         if not text:
             continue
@@ -101,7 +112,9 @@ def read(data):
         elif re.split(r"[ \t]+", text)[0] == "define":
             raise Refused("Unclosed", block.line)
         else:
-            block.directives.append(directive(block.type, text, line))
+            given = directive(block.type, text, line, nagios and is_one)
+            given = as_nagios(block.type, given) if nagios else given
+            block.directives += [] if given is None else [given]
     if block is not None:
         raise Refused("Unclosed", block.line)
     return blocks

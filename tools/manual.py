@@ -12,7 +12,7 @@ TOP = os.path.dirname(os.path.dirname(os.path.realpath(__file__)))
 NAME = "notify-run"
 SECTION = re.compile(r"(?m)^(Usage|Commands|Arguments|Options):")
 # An option or a word of a list, where it begins.
-ENTRY = re.compile(r" {2,6}((?:-\w, )?--?[\w-]+|\[?<?[A-Z][\w-]*>?\]?(?:\.\.\.)?)(?: <([\w-]+)>)?(?: {2,}(\S.*))?$")
+ENTRY = re.compile(r" {2,6}((?:-\w, )?--?[\w-]+|\[?<?[A-Z][\w-]*>?\]?(?:\.\.\.)?)(?: <([\w=-]+)>)?(?: {2,}(\S.*))?$")
 
 
 class Entry(NamedTuple):

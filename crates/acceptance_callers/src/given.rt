@@ -4,7 +4,7 @@ ghost use Rattle.caller_feeds.specs.Feeds.{AreUnsent, IsOpen};
 
 use caller_feeds::{FeedHandle, Intake, IntakeStop};
 use crossbeam_utils::Backoff;
-use due_model::config::{Config, ObjectId};
+use due_model::config::{Choices, Config, ObjectId};
 use due_model::dependencies::Dependencies;
 use due_model::escalations::Escalations;
 use due_model::event::{Event, EventKind};
@@ -28,6 +28,7 @@ const SPAN: u64 = 10_000;
 /// A configuration without an object.
 pub(crate) fn no_objects(alloc: Global) -> Result<Config, AllocError> {
     Ok(Config {
+        choices: Choices::own(),
         objects: Objects::new(alloc, Vec::new(alloc))?,
         contacts: Sequence::new(Vec::new(alloc)),
         lanes: Sequence::new(Vec::new(alloc)),

@@ -2,6 +2,7 @@
 
 use changed_notices::ChangeForm;
 use command_output::Ending;
+use due_model::config::Choices;
 use due_model::zone::Zone;
 use std::alloc::AllocError;
 use std::process::Abort;
@@ -46,6 +47,7 @@ fn a_change_of_escalations(rt: HostRuntime) -> Result<(), AllocError> {
     let mut out = Vec::new(rt.alloc());
     let ended = compare_files(
         rt.alloc(),
+        Choices::own(),
         &Zone::Utc,
         before.as_bytes(),
         after.as_bytes(),

@@ -2,10 +2,11 @@
 
 use acceptance_inputs::texts::{BASE, input};
 use command_output::Ending;
+use due_model::config::Choices;
 use due_model::zone::Zone;
 use line_forms::Picks;
 use progress::Unwatched;
-use report_pretty::{pretty_files, pretty_in};
+use report_pretty::{Wanted, pretty_files, pretty_in};
 use std::test::Fail;
 
 const FEED: &str = "\
@@ -49,10 +50,13 @@ fn of_one_input(rt: HostRuntime) -> Result<(), Fail> {
     let mut out = Vec::new(alloc);
     let ended = pretty_in(
         alloc,
+        Choices::own(),
         &Zone::Utc,
         text.as_bytes(),
-        lines_of(None),
-        false,
+        Wanted {
+            picks: lines_of(None),
+            coloured: false,
+        },
         &mut out,
         &mut Unwatched,
     );
@@ -69,11 +73,14 @@ fn of_two_inputs_with_colours(rt: HostRuntime) -> Result<(), Fail> {
     let mut out = Vec::new(alloc);
     let ended = pretty_files(
         alloc,
+        Choices::own(),
         &Zone::Utc,
         BASE.as_bytes(),
         FEED.as_bytes(),
-        lines_of(Some("SR")),
-        true,
+        Wanted {
+            picks: lines_of(Some("SR")),
+            coloured: true,
+        },
         &mut out,
         &mut Unwatched,
     );

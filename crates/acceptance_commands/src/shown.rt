@@ -2,6 +2,7 @@
 
 use acceptance_inputs::texts::{BASE, input};
 use command_output::{CommandFault, Ending};
+use due_model::config::Choices;
 use due_model::zone::Zone;
 use line_forms::Picks;
 use progress::Unwatched;
@@ -53,7 +54,15 @@ fn is_shown(
 /// Shows the report of one input.
 fn shows_in(rt: &impl Abort, alloc: Global, text: &[u8], shown: ShownLines<'_>, wanted: &str) {
     let mut out = Vec::new(alloc);
-    let ended = show_in(alloc, &Zone::Utc, text, shown, &mut out, &mut Unwatched);
+    let ended = show_in(
+        alloc,
+        Choices::own(),
+        &Zone::Utc,
+        text,
+        shown,
+        &mut out,
+        &mut Unwatched,
+    );
     is_shown(rt, out.as_slice(), ended, wanted, "of one input");
 }
 
@@ -69,6 +78,7 @@ fn shows_files(
     let feed = FEED.as_bytes();
     let ended = show_files(
         alloc,
+        Choices::own(),
         &Zone::Utc,
         objects,
         feed,

@@ -1,6 +1,7 @@
 //! Who would be told, and who wouldn't, over a writer in memory.
 
 use command_output::Ending;
+use due_model::config::Choices;
 use due_model::zone::Zone;
 use made_feed::Supposed;
 use std::test::Fail;
@@ -52,6 +53,7 @@ fn of_a_host(rt: HostRuntime) -> Result<(), Fail> {
     let mut out = Vec::new(rt.alloc());
     let ended = who(
         rt.alloc(),
+        Choices::own(),
         &Zone::Utc,
         OBJECTS.as_bytes(),
         &WEB,
@@ -85,6 +87,7 @@ fn of_a_host_for_people(rt: HostRuntime) -> Result<(), Fail> {
     let mut out = Vec::new(rt.alloc());
     let ended = who(
         rt.alloc(),
+        Choices::own(),
         &Zone::Utc,
         OBJECTS.as_bytes(),
         &WEB,
@@ -104,6 +107,7 @@ fn of_a_host_as_json(rt: HostRuntime) -> Result<(), Fail> {
     let supposed = Supposed { minutes: 1, ..WEB };
     let ended = who(
         rt.alloc(),
+        Choices::own(),
         &Zone::Utc,
         OBJECTS.as_bytes(),
         &supposed,
@@ -126,6 +130,7 @@ fn of_one_that_is_unknown(rt: HostRuntime) -> Result<(), Fail> {
     };
     let ended = who(
         rt.alloc(),
+        Choices::own(),
         &Zone::Utc,
         OBJECTS.as_bytes(),
         &supposed,

@@ -1,6 +1,6 @@
 //! Generated configurations and events, with services, disabled objects, periods that exclude others, escalations of
-//! some letters, dependencies, contacts restricted for hosts and for services, downtimes, flapping and
-//! acknowledgements. On each, the slow program, one decider, and two, three and eight say the same.
+//! some letters, dependencies, contacts restricted for hosts and for services, downtimes, flapping,
+//! acknowledgements and switches, half of them by rules drawn from this project's and the daemon's. On each, the slow program, one decider, and two, three and eight say the same.
 
 ghost use Rattle.std.specs.Prelude.{◌<◌, ◌≤◌};
 
@@ -12,7 +12,7 @@ use acceptance_inputs::rows::{
     ContactRow, EscalationRow, ObjectRow, PeriodRow, RightsRow, Rows, config_of,
 };
 use due_model::config::{Config, ContactId, Dependency, LaneId, ObjectId, PeriodId, Range};
-use due_model::event::{DowntimeChange, Event, EventKind};
+use due_model::event::{Acknowledgement, DowntimeChange, Event, EventKind};
 use due_model::notice::{Filter, Suppression};
 use due_model::options::OptionLetters;
 use due_model::state::{State, StateSet};
@@ -30,7 +30,7 @@ const EVENTS: u64 = 24;
 const OBJECTS: u16 = 5;
 
 /// How many filters there are.
-const FILTERS: usize = 14;
+const FILTERS: usize = 16;
 
 /// How many commands each has.
 const LANES: u8 = 2;
@@ -211,6 +211,7 @@ impl Numbers {
             period: self.from_a_moment_on(),
             interval: self.below(4) as u32,
             delay: self.below(2) as u32,
+            volatile: host.is_some() && self.once_in(4),
             contacts: self.named(),
         }
     }
@@ -280,15 +281,24 @@ impl Numbers {
         EventKind::Downtime(ObjectId(object), change)
     }
 
+    /// How a problem is acknowledged.
+    fn acknowledgement(&mut self) -> Acknowledgement {
+        let sticky = self.once_in(2);
+        let notify = self.once_in(2);
+        Acknowledgement { sticky, notify }
+    }
+
     /// What an event says.
     fn event(&mut self) -> EventKind {
         let object = self.below(u64::from(OBJECTS)) as u16;
-        match self.below(18) {
+        match self.below(20) {
             0 => EventKind::Program(!self.once_in(3)),
             1 => EventKind::Flapping(ObjectId(object), self.once_in(2)),
             2 | 3 => self.downtime(object),
             4..=8 => EventKind::Clock,
-            9 | 10 => EventKind::Ack(ObjectId(object), self.once_in(2)),
+            9 | 10 => EventKind::Ack(ObjectId(object), self.acknowledgement()),
+            11 => EventKind::AckRemoved(ObjectId(object)),
+            12 => EventKind::OwnSwitch(ObjectId(object), !self.once_in(3)),
             _ => self.hard(object),
         }
     }
@@ -336,7 +346,9 @@ fn config(alloc: Global, numbers: &mut Numbers) -> Result<Config, AllocError> {
         escalations: escalations.as_slice(),
         dependencies: dependencies.as_slice(),
     };
-    config_of(alloc, rows)
+    let mut config = config_of(alloc, rows)?;
+    config.choices = numbers.choices();
+    Ok(config)
 }
 
 /// The events of a seed. Their stamps mostly rise, over some hours, and sometimes fall.

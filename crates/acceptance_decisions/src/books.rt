@@ -1,5 +1,6 @@
 //! A book of one object through a problem and the next, and through each filter. What the program makes of it is seen in `tests/rows`.
 
+use due_model::config::Choices;
 use due_model::limits::LAST_MOMENT;
 use due_model::notice::Filter;
 use due_model::rules::Last;
@@ -83,7 +84,7 @@ fn after_step(rt: &impl Abort, book: Book, t: u64, what: Told) -> Book {
     let mut book = book;
     assert!(rt; t <= LAST_MOMENT);
     match what {
-        Told::Hard(state) => book.hard(state, t),
+        Told::Hard(state) => book.hard(Choices::own(), state, t),
         Told::Sent(interval) => {
             assert!(rt; book.is_running() && book.sent() < 1000 && interval <= 60_000_000);
             book.went_out(t, interval);

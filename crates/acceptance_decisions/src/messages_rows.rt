@@ -8,7 +8,7 @@ ghost use Rattle.outcomes.specs.Rules.{AreRules};
 use acceptance_inputs::accepted::is_accepted;
 use acceptance_inputs::rows::{ContactRow, EscalationRow, ObjectRow, PeriodRow, Rows, config_of};
 use due_model::config::{Config, ContactId, LaneId, ObjectId, PeriodId, Range};
-use due_model::notice::{Filter, Kind, Notice, Outcome, Suppression};
+use due_model::notice::{Filter, Kind, Notice, Outcome, Reach, Suppression};
 use due_model::options::OptionLetters;
 use due_model::proper::has_object;
 use due_model::state::State;
@@ -121,6 +121,11 @@ fn outcome(case: Case) -> Outcome
             number,
             moment: MOMENT,
             gap: 60,
+            reach: Reach {
+                heard: true,
+                told: None,
+                standing: number.saturating_sub(1),
+            },
         },
         Some(filter) => Outcome::Suppressed {
             kind,
@@ -176,7 +181,7 @@ fn adds(rt: &impl Abort, alloc: Global, rules: &Rules<'_>, case: Case) -> Result
     let mut entries = Vec::new(alloc);
     let now = outcome(case);
     let object = ObjectId(0);
-    add_messages(
+    let _heard = add_messages(
         alloc,
         rules,
         object,

@@ -46,6 +46,7 @@ object_of row = record {
   period = row.period;
   interval = row.interval;
   delay = row.delay;
+  volatile = row.volatile;
   contacts = row.contacts.now;
 }
 

@@ -19,6 +19,7 @@ const WEB: ObjectRow = ObjectRow {
     period: None,
     interval: 1,
     delay: 0,
+    volatile: false,
     contacts: &[ContactId(0)],
 };
 
@@ -95,6 +96,7 @@ pub fn object(alloc: Global, name: &str, host: Option<ObjectId>) -> Result<Objec
         period: None,
         interval: 60,
         delay: 0,
+        volatile: false,
         contacts: ContactList::new(alloc, &[])?,
     })
 }

@@ -2,13 +2,14 @@
 
 ghost use Rattle.std.specs.Prelude.{◌≡◌, ◌+◌, ◌++◌, []};
 ghost use Rattle.std.specs.Prelude.{length, map, replicate, take, IfOk, IsOk};
+ghost use Rattle.due_model.specs.Choices.{own};
 ghost use Rattle.due_model.specs.Limits.{max_objects};
 ghost use Rattle.acceptance_inputs.specs.Tables.{contact_of, escalation_of, host_rights, mail};
 ghost use Rattle.acceptance_inputs.specs.Tables.{object_of, rights_of};
 
 use crate::periods::Row;
 use due_model::config::{
-    Config, Contact, ContactId, ContactList, Dependency, Escalation, Lane, LaneId, Object,
+    Choices, Config, Contact, ContactId, ContactList, Dependency, Escalation, Lane, LaneId, Object,
     ObjectId, Period, PeriodId, Range, Rights,
 };
 use due_model::dependencies::Dependencies;
@@ -97,6 +98,7 @@ pub struct ObjectRow {
     pub period: Option<PeriodId>,
     pub interval: u32,
     pub delay: u32,
+    pub volatile: bool,
     pub contacts: &'static [ContactId],
 }
 
@@ -110,6 +112,7 @@ impl ObjectRow {
         period: None,
         interval: 60,
         delay: 0,
+        volatile: false,
         contacts: &[],
     };
 }
@@ -217,6 +220,7 @@ fn object(alloc: Global, row: &ObjectRow) -> Result<Object, AllocError>
         period: row.period,
         interval: row.interval,
         delay: row.delay,
+        volatile: row.volatile,
         contacts: ContactList::new(alloc, row.contacts)?,
     })
 }
@@ -369,6 +373,7 @@ pub fn objects_of(alloc: Global, rows: &[ObjectRow]) -> Result<Objects, AllocErr
 /// The configuration of these parts.
 fn of_parts(alloc: Global, parts: Parts) -> Result<Config, AllocError>
     ensures { IfOk result (λ config. config ≡ record {
+      choices = own;
       objects = take max_objects parts.objects.items;
       contacts = parts.contacts.items;
       lanes = parts.lanes.items;
@@ -380,6 +385,7 @@ fn of_parts(alloc: Global, parts: Parts) -> Result<Config, AllocError>
     let mut objects = parts.objects;
     objects.truncate(MAX_OBJECTS);
     Ok(Config {
+        choices: Choices::own(),
         objects: Objects::new(alloc, objects)?,
         contacts: Sequence::new(parts.contacts),
         lanes: Sequence::new(parts.lanes),
@@ -414,6 +420,7 @@ pub fn config_of(alloc: Global, rows: Rows<'_>) -> Result<Config, AllocError>
         config.objects ≡ take max_objects (map object_of rows.entry.objects.now)) }
     ensures contacts { IfOk result (λ config.
         config.contacts ≡ map contact_of rows.entry.contacts.now) }
+    ensures choices { IfOk result (λ config. config.choices ≡ own) }
     ensures lanes { IfOk result (λ config. config.lanes ≡ replicate rows.entry.lanes mail) }
     ensures periods { IfOk result (λ config.
         length config.periods ≡ length rows.entry.periods.now) }

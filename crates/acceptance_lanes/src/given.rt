@@ -8,7 +8,7 @@ ghost use Rattle.acceptance_lanes.specs.Deciders.{AreDeciders, HavePut};
 
 use channel_queue::{LaneQueue, Pass};
 use crossbeam_utils::Backoff;
-use due_model::config::{Config, ContactId, LaneId, ObjectId};
+use due_model::config::{Choices, Config, ContactId, LaneId, ObjectId};
 use due_model::dependencies::Dependencies;
 use due_model::escalations::Escalations;
 use due_model::item::Item;
@@ -25,6 +25,7 @@ pub(crate) const MOST_TURNS: u32 = 10_000_000;
 /// A configuration without objects: a letter names none.
 pub(crate) fn no_objects(alloc: Global) -> Result<Config, AllocError> {
     Ok(Config {
+        choices: Choices::own(),
         objects: Objects::new(alloc, Vec::new(alloc))?,
         contacts: Sequence::new(Vec::new(alloc)),
         lanes: Sequence::new(Vec::new(alloc)),

@@ -54,9 +54,12 @@ const OPEN: View = View {
         moment: 100,
         gap: 60,
     }),
+    renews: false,
+    told: OptionLetters::NONE,
+    host_problem: false,
 };
 
-const ALL: [Kind; 7] = [
+const ALL: [Kind; 8] = [
     Kind::Problem,
     Kind::Recovery,
     Kind::FlappingStart,
@@ -64,6 +67,7 @@ const ALL: [Kind; 7] = [
     Kind::DowntimeStart,
     Kind::DowntimeEnd,
     Kind::DowntimeCancelled,
+    Kind::Acknowledgement,
 ];
 
 // Views that a filter and each later one refuse.
@@ -283,7 +287,7 @@ fn gives(rt: &impl Abort, periods: &[Compiled], case: Case) {
         periods,
     };
     assert!(rt; attempt.moment <= LAST_MOMENT && is_within_limits(case.view));
-    let found = object_verdict(case.view, &attempt).err();
+    let found = object_verdict(false, case.view, &attempt).err();
     assert_eq!(rt;
         found,
         case.found,
@@ -379,7 +383,7 @@ fn contact_gives(
             zone: &zone,
             periods,
         };
-        let found = contact_verdict(config, ContactId(place as u16), &attempt).err();
+        let found = contact_verdict(config, ContactId(place as u16), &attempt, None).err();
         let wanted = if *kind == Kind::Problem {
             held.problem
         } else {

@@ -3,3 +3,4 @@ pub mod RingLemmas
 pub mod MergeLemmas
 pub mod TakenLemmas
 pub mod MeetLemmas
+mod ProperLemmas

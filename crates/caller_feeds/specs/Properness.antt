@@ -5,7 +5,7 @@ use Rattle.due_model.specs.declared.config.Config.{Config}
 use Rattle.due_model.specs.declared.config.Object.{Object}
 use Rattle.due_model.specs.declared.event.Event.{Event}
 use Rattle.due_model.specs.declared.event.EventKind.{EventKind}
-use Rattle.due_model.specs.declared.event.EventKind.TheVariants.{Clock, Program, Hard, Downtime, Flapping, Ack}
+use Rattle.due_model.specs.declared.event.EventKind.TheVariants.{Clock, Program, Hard, Downtime, Flapping, Ack, AckRemoved, OwnSwitch}
 use Rattle.due_model.specs.Limits.{last_moment}
 use Rattle.due_model.specs.Proper.{IsProper, is_state_of}
 
@@ -17,7 +17,9 @@ kind_is_proper c (Hard o state) =
     option_map_or (λ (object : Object). is_state_of (is_some object.host) state) (slice_get c.objects o.0) false
 kind_is_proper c (Downtime o change) = nat_lt o.0 (length c.objects)
 kind_is_proper c (Flapping o starts) = nat_lt o.0 (length c.objects)
-kind_is_proper c (Ack o sticky) = nat_lt o.0 (length c.objects)
+kind_is_proper c (Ack o ack) = nat_lt o.0 (length c.objects)
+kind_is_proper c (AckRemoved o) = nat_lt o.0 (length c.objects)
+kind_is_proper c (OwnSwitch o on) = nat_lt o.0 (length c.objects)
 
 abbrev pub is_proper : Config → Event → Bool
 is_proper c e = nat_le e.moment last_moment && kind_is_proper c e.kind

@@ -5,7 +5,7 @@ use Rattle.clap.specs.Matches.{first_value}
 use Rattle.clap.specs.declared.parser.matches.Found.{Found}
 use Rattle.clap.specs.Words.{App, Rule, new_app, with_rule}
 use Rattle.command_line.specs.declared.why.WhyWords.{WhyWords}
-use Rattle.command_line.specs.Options.{IsFlag, flag_option, text_option, with_zone}
+use Rattle.command_line.specs.Options.{IsFlag, flag_option, text_option, with_site}
 
 -- the values that the options of `why` hold of what is asked
 pub record IsWhyOf (options : Found) (asked : WhyWords) : Type 0 where
@@ -32,5 +32,5 @@ with_span app =
 -- `why` has the file of object text, the object, and these
 abbrev pub why_words : App
 why_words =
-    with_zone (with_span (with_rule (with_rule (new_app (codes "why"))
+    with_site (with_span (with_rule (with_rule (new_app (codes "why"))
     (record (text_option (codes "objects")) { required = true })) asked_object))

@@ -12,12 +12,11 @@ use Rattle.clap.specs.Words.{App, Rule, new_app, new_rule, rows_of, subcommand_r
 use Rattle.clap.specs.Words.{with_rule}
 use Rattle.steps.specs.declared.settings.Settings.{Settings}
 use Rattle.steps.specs.Settings.{AreSettings, max_channels}
-use Rattle.clap.specs.declared.builder.action.ArgAction.TheVariants.{Append}
 use Rattle.clap.specs.declared.builder.value_parser.ValueParser.TheVariants.{Signed}
 use Rattle.command_line.specs.State.{IsStateOf, state_fault, with_state_options}
 use Rattle.command_line.specs.Check.{check_words, IsCheckOf, LacksCheck}
 use Rattle.command_line.specs.Why.{IsWhyOf, LacksWhy, why_words}
-pub use Rattle.command_line.specs.Options.{flag_option, IsFlag, text_option, with_zone}
+pub use Rattle.command_line.specs.Options.{flag_option, IsFlag, text_option, text_options, with_choices, with_site, with_zone}
 use Rattle.command_line.specs.declared.state.FeedFault.{FeedFault}
 use Rattle.command_line.specs.declared.state.FeedFault.TheVariants.{NoFeed}
 use Rattle.command_line.specs.declared.words.FeedWords.{FeedWords}
@@ -49,10 +48,14 @@ AreSettingsFit (Diff objects changed zone json) = Unit {0}
 AreSettingsFit (Why objects zone asked) = Unit {0}
 AreSettingsFit (Check zone asked) = Unit {0}
 
--- the texts that the options of a command hold of the zone
+-- the texts that the options of a command hold of the zone, and of whose rules decide
 pub record IsZoneOf (options : Found) (words : ZoneWords) : Type 0 where
   pub rule : option_copied words.rule ≡ first_value options (codes "zone")
   pub file : option_copied words.file ≡ first_value options (codes "zone-file")
+  pub as_nagios : IsFlag options (codes "as-nagios") words.as_nagios
+  pub nagios : IsFlag options (codes "nagios") words.nagios
+  pub choose : option_map (λ texts. map (λ text. text.now) texts.now) words.choose
+      ≡ option_map raw_values (matched_of options (codes "choose"))
 
 -- the texts that they hold of which lines of a report are wanted, whether each is to be JSON, or for people, and of the picture's
 -- file
@@ -306,7 +309,7 @@ with_shown app =
 -- `replay` has these, the file of the object text, and that of a picture
 abbrev pub replay_words : App
 replay_words =
-    with_zone (with_rule (with_shown (with_rule (new_app (codes "replay")) (text_option (codes "objects"))))
+    with_site (with_rule (with_shown (with_rule (new_app (codes "replay")) (text_option (codes "objects"))))
     (text_option (codes "picture")))
 
 -- two say how many notices a lane's queue holds, and how many tries a message has
@@ -318,7 +321,7 @@ with_lane_options app =
 -- `trace` has these, and how many deciders there are, and how many channels of each lane stand by
 abbrev pub trace_words : App
 trace_words =
-    with_zone (with_lane_options (with_rule (with_rule (new_app (codes "trace"))
+    with_site (with_lane_options (with_rule (with_rule (new_app (codes "trace"))
     (number_option (codes "deciders") (codes "1") 1 8))
     (number_option (codes "standbys") (codes "0") 0 7)))
 
@@ -344,16 +347,12 @@ with_log_options app =
 -- these, how far ahead a stamp may be, where its report and its metrics go, `--quiet`, where the feed is read from, what is kept, and the channel words
 abbrev pub run_words : App
 run_words =
-    with_rule (with_zone (with_state_options (with_feed_options (with_rule (with_log_options (with_rule (with_try_options (with_rule (with_rule (with_rule (new_app (codes "run"))
+    with_rule (with_site (with_state_options (with_feed_options (with_rule (with_log_options (with_rule (with_try_options (with_rule (with_rule (with_rule (new_app (codes "run"))
     (record (text_option (codes "objects")) { required = true }))
     (number_option (codes "deciders") (codes "2") 1 8))
     (number_option (codes "queue") (codes "64") 1 1024)))
     (bare_number_option (codes "ahead") 0 4294967295)))
     (flag_option (codes "quiet")))))) (word_list (codes "channel"))
-
--- `--NAME TEXT`, any number of times
-abbrev pub text_options : List ℕ → Rule
-text_options name = record (text_option name) { action = Some Append }
 
 -- `--for TEXT`, four hours where it is left out
 abbrev pub length_option : Rule
@@ -378,13 +377,13 @@ with_supposed app =
 -- `who` has these, and the file of the object text, which must be given
 abbrev pub who_words : App
 who_words =
-    with_zone (with_supposed (with_rule (new_app (codes "who"))
+    with_site (with_supposed (with_rule (new_app (codes "who"))
     (record (text_option (codes "objects")) { required = true })))
 
 -- `diff` has two files of object text, both of which must be given, and a flag that says that each line is to be JSON
 abbrev pub diff_words : App
 diff_words =
-    with_zone (with_rule (with_rule (with_rule (new_app (codes "diff"))
+    with_site (with_rule (with_rule (with_rule (new_app (codes "diff"))
     (record (text_option (codes "objects")) { required = true }))
     (record (text_option (codes "with")) { required = true })) (flag_option (codes "json")))
 

@@ -6,7 +6,7 @@ ghost use Rattle.clap.specs.Words.{app_of};
 ghost use Rattle.command_line.specs.Words.{AreSettingsFit, DiffLacks, IsRequestOf, diff_words};
 ghost use Rattle.command_line.specs.Words.{request_name};
 
-use crate::options::{flag_option, text_option, with_zone, zone_words};
+use crate::options::{flag_option, text_option, with_site, zone_words};
 use crate::words::Request;
 use clap::{ArgMatches, Command};
 use std::alloc::{AllocError, Global};
@@ -48,7 +48,7 @@ pub(crate) fn diff_command<'a>(alloc: Global) -> Result<Command<'a>, AllocError>
         .arg(objects.required(true))?
         .arg(changed.required(true))?
         .arg(json)?;
-    with_zone(alloc, command)
+    with_site(alloc, command)
 }
 
 /// What the options of `diff` ask.

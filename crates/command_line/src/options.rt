@@ -5,7 +5,7 @@ ghost use Rattle.clap.specs.Matches.{found_of};
 ghost use Rattle.clap.specs.Words.{app_of, rule_of};
 ghost use Rattle.command_line.specs.Words.{IsZoneOf, HoldFitting, HoldSettings, HoldsNumber, flag_option};
 ghost use Rattle.command_line.specs.Words.{one_word, number_option, text_option, with_lane_options};
-ghost use Rattle.command_line.specs.Words.{with_zone};
+ghost use Rattle.command_line.specs.Words.{text_options, with_choices, with_site, with_zone};
 
 use crate::words::ZoneWords;
 use clap::{Arg, ArgAction, ArgMatches, Command, value_parser};
@@ -57,6 +57,50 @@ pub(crate) fn with_zone<'a>(alloc: Global, command: Command<'a>) -> Result<Comma
         "The zone of local times, by a zone file (TZif)",
     );
     command.arg(rule)?.arg(file)
+}
+
+/// The option that says whose rule decides in a field, any number of times.
+fn choose_option<'a>(alloc: Global) -> Arg<'a>
+    ensures rule { rule_of result ≡ text_options (codes "choose") }
+    ensures local { result.global ≡ false }
+{
+    text_option(
+        alloc,
+        "choose",
+        "FIELD=RULE",
+        "Whose rule decides in a field of RULES' table of choices: FIELD=own or FIELD=nagios; may be given again",
+    )
+    .action(ArgAction::Append)
+}
+
+/// Adds the options that say whose rules decide.
+fn with_choices<'a>(alloc: Global, command: Command<'a>) -> Result<Command<'a>, AllocError>
+    ensures words { IfOk result (λ command_with.
+        app_of command_with ≡ with_choices (app_of command.entry)) }
+{
+    let as_nagios = flag_option(
+        alloc,
+        "as-nagios",
+        "By the rules of the daemon of Nagios Core 4.4.6, where they differ from these",
+    );
+    let nagios = flag_option(
+        alloc,
+        "nagios",
+        "Reads object text as Nagios does: what else is refused by name is taken",
+    );
+    command
+        .arg(as_nagios)?
+        .arg(nagios)?
+        .arg(choose_option(alloc))
+}
+
+/// Adds the options that say what zone local times are of, and whose rules decide.
+pub(crate) fn with_site<'a>(alloc: Global, command: Command<'a>) -> Result<Command<'a>, AllocError>
+    ensures words { IfOk result (λ command_with.
+        app_of command_with ≡ with_site (app_of command.entry)) }
+{
+    let with_zone = with_zone(alloc, command)?;
+    with_choices(alloc, with_zone)
 }
 
 /// The option that says how many deciders there are, and how many where it is left out.
@@ -158,12 +202,15 @@ pub(crate) fn deciders_of(options: &ArgMatches<'_>) -> Option<u8>
     options.get_one::<u8>("deciders")
 }
 
-/// What the options of a command say of the zone.
-pub(crate) fn zone_words<'a>(options: &ArgMatches<'a>) -> ZoneWords<'a>
+/// What the options of a command say of the zone, and of whose rules decide.
+pub(crate) fn zone_words<'m, 'a>(options: &'m ArgMatches<'a>) -> ZoneWords<'m, 'a>
     ensures { IsZoneOf (found_of options.now) result }
 {
     ZoneWords {
         rule: options.get_str("zone"),
         file: options.get_str("zone-file"),
+        as_nagios: options.get_flag("as-nagios"),
+        nagios: options.get_flag("nagios"),
+        choose: options.get_strs("choose"),
     }
 }

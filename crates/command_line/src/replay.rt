@@ -6,7 +6,7 @@ ghost use Rattle.clap.specs.Words.{app_of};
 ghost use Rattle.command_line.specs.Words.{IsRequestOf, IsShownOf, replay_words, request_name, with_picks};
 ghost use Rattle.command_line.specs.Words.{with_shown};
 
-use crate::options::{flag_option, text_option, with_zone, zone_words};
+use crate::options::{flag_option, text_option, with_site, zone_words};
 use crate::words::{Request, ShownWords};
 use clap::{ArgMatches, Command};
 use std::alloc::{AllocError, Global};
@@ -57,7 +57,7 @@ pub(crate) fn replay_command<'a>(alloc: Global) -> Result<Command<'a>, AllocErro
         "A file for a picture of the feed, as SVG: one row an object, time to the right",
     );
     let with_shown = with_shown(alloc, command)?.arg(picture)?;
-    with_zone(alloc, with_shown)
+    with_site(alloc, with_shown)
 }
 
 /// Adds the options that say which lines of a report are wanted.

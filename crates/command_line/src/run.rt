@@ -10,7 +10,7 @@ ghost use Rattle.command_line.specs.Words.{with_feed_options, number_option, req
 ghost use Rattle.command_line.specs.Words.{with_try_options, word_list};
 
 use crate::options::{
-    deciders_of, deciders_option, flag_option, queue_option, settings_of, text_option, with_zone,
+    deciders_of, deciders_option, flag_option, queue_option, settings_of, text_option, with_site,
     zone_words,
 };
 use crate::state::{state_words, with_state_options};
@@ -213,7 +213,7 @@ pub(crate) fn run_command<'a>(alloc: Global) -> Result<Command<'a>, AllocError>
     let with_quiet = with_log.arg(flag_option(alloc, "quiet", quiet))?;
     let with_feed = with_feed_options(alloc, with_quiet)?;
     let with_state = with_state_options(alloc, with_feed)?;
-    let with_options = with_zone(alloc, with_state)?;
+    let with_options = with_site(alloc, with_state)?;
     with_options.arg(channel_words(alloc))
 }
 

@@ -7,7 +7,7 @@ ghost use Rattle.command_line.specs.Words.{AreSettingsFit, IsRequestOf, TraceLac
 ghost use Rattle.command_line.specs.Words.{trace_words};
 
 use crate::options::{
-    deciders_option, settings_of, standbys_option, with_lane_options, with_zone, zone_words,
+    deciders_option, settings_of, standbys_option, with_lane_options, with_site, zone_words,
 };
 use crate::words::Request;
 use clap::{ArgMatches, Command};
@@ -56,7 +56,7 @@ pub(crate) fn trace_command<'a>(alloc: Global) -> Result<Command<'a>, AllocError
         .arg(standbys_option(alloc))?;
     let queue = "How many notices the queue of a lane holds, 1 to 1024";
     let with_lanes = with_lane_options(alloc, command, queue)?;
-    with_zone(alloc, with_lanes)
+    with_site(alloc, with_lanes)
 }
 
 /// What the options of `trace` ask.

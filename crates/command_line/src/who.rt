@@ -7,7 +7,7 @@ ghost use Rattle.command_line.specs.Words.{AreSettingsFit, IsRequestOf, IsWhoOf,
 ghost use Rattle.command_line.specs.Words.{length_option, text_options, who_words, with_supposed};
 ghost use Rattle.command_line.specs.Words.{request_name, text_option};
 
-use crate::options::{flag_option, one_word, text_option, with_zone, zone_words};
+use crate::options::{flag_option, one_word, text_option, with_site, zone_words};
 use crate::words::{Request, WhoWords};
 use clap::{Arg, ArgAction, ArgMatches, Command};
 use std::alloc::{AllocError, Global};
@@ -108,7 +108,7 @@ pub(crate) fn who_command<'a>(alloc: Global) -> Result<Command<'a>, AllocError>
         .long_about(WHO)
         .arg(objects)?;
     let with_supposed = with_supposed(alloc, command)?;
-    with_zone(alloc, with_supposed)
+    with_site(alloc, with_supposed)
 }
 
 /// What the options of `who` suppose.

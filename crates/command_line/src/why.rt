@@ -6,7 +6,7 @@ ghost use Rattle.clap.specs.Words.{app_of, rule_of};
 ghost use Rattle.command_line.specs.Why.{IsWhyOf, LacksWhy, asked_object, why_words, with_span};
 ghost use Rattle.command_line.specs.Words.{AreSettingsFit, IsRequestOf, WhyLacks, request_name};
 
-use crate::options::{flag_option, text_option, with_zone, zone_words};
+use crate::options::{flag_option, text_option, with_site, zone_words};
 use crate::words::Request;
 use clap::{Arg, ArgMatches, Command};
 use std::alloc::{AllocError, Global};
@@ -73,7 +73,7 @@ pub(crate) fn why_command<'a>(alloc: Global) -> Result<Command<'a>, AllocError>
         .long_about(WHY)
         .arg(objects.required(true))?
         .arg(asked_object(alloc))?;
-    with_zone(alloc, with_span(alloc, command)?)
+    with_site(alloc, with_span(alloc, command)?)
 }
 
 /// What the options of `why` ask of a report.

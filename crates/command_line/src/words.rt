@@ -12,13 +12,20 @@ use crate::state::{FeedFault, StateWords};
 use crate::why::WhyWords;
 use steps::Settings;
 
-/// What a command line says of the zone of local times: neither, for UTC, or one of the two; both are one too many.
+/// What a command line says of the zone of local times: neither, for UTC, or one of the two; both are one too many. And of whose
+/// rules decide: this project's, or the daemon's of Nagios Core 4.4.6, field by field.
 #[derive(Clone, Copy, Debug, PartialEq, Eq)]
-pub struct ZoneWords<'a> {
+pub struct ZoneWords<'m, 'a> {
     /// The text of a POSIX rule.
     pub rule: Option<&'a str>,
     /// The path of a zone file (TZif).
     pub file: Option<&'a str>,
+    /// Whether the daemon's rules decide.
+    pub as_nagios: bool,
+    /// Whether object text is read as Nagios reads it.
+    pub nagios: bool,
+    /// The words FIELD=own or FIELD=nagios, in order, if there are some: in each field the last that names it decides.
+    pub choose: Option<&'m [&'a str]>,
 }
 
 /// What a command line says of a report's lines: which are wanted, those that meet each condition that is given, and
@@ -150,7 +157,7 @@ pub enum Request<'m, 'a> {
     /// A report, of the object text in the file, or of what stands before the feed on standard input.
     Replay {
         objects: Option<&'a str>,
-        zone: ZoneWords<'a>,
+        zone: ZoneWords<'m, 'a>,
         shown: ShownWords<'a>,
     },
     /// A trace.
@@ -158,13 +165,13 @@ pub enum Request<'m, 'a> {
         settings: Settings,
         /// How many channels of each lane stand by.
         standbys: u8,
-        zone: ZoneWords<'a>,
+        zone: ZoneWords<'m, 'a>,
     },
     /// A run, of the object text in the file and the feed on standard input.
     Run {
         objects: &'a str,
         settings: Settings,
-        zone: ZoneWords<'a>,
+        zone: ZoneWords<'m, 'a>,
         /// The channel words, in order, if there are some.
         channels: Option<&'m [&'a str]>,
         times: TryTimes,
@@ -178,31 +185,31 @@ pub enum Request<'m, 'a> {
     /// Who would be told, of the object text in the file.
     Who {
         objects: &'a str,
-        zone: ZoneWords<'a>,
+        zone: ZoneWords<'m, 'a>,
         asked: WhoWords<'m, 'a>,
     },
     /// What a change does to the notices of the feed on standard input: from the object text in one file to that in another.
     Diff {
         objects: &'a str,
         changed: &'a str,
-        zone: ZoneWords<'a>,
+        zone: ZoneWords<'m, 'a>,
         /// Whether each line is to be an object of JSON.
         json: bool,
     },
     /// Why each message about an object went to whom it did, by the object text in the file and the feed on standard input.
     Why {
         objects: &'a str,
-        zone: ZoneWords<'a>,
+        zone: ZoneWords<'m, 'a>,
         asked: WhyWords<'a>,
     },
     /// The faults of the object text in the files, and its warnings.
     Check {
-        zone: ZoneWords<'a>,
+        zone: ZoneWords<'m, 'a>,
         asked: CheckWords<'m, 'a>,
     },
 }
 
-impl ZoneWords<'_> {
+impl ZoneWords<'_, '_> {
     /// Whether it says anything of the zone.
     pub fn is_given(self) -> bool
         ensures { result ≡ is_given self.entry }
@@ -211,9 +218,9 @@ impl ZoneWords<'_> {
     }
 }
 
-impl<'a> Request<'_, 'a> {
-    /// What it says of the zone.
-    pub fn zone(self) -> ZoneWords<'a>
+impl<'m, 'a> Request<'m, 'a> {
+    /// What it says of the zone, and of whose rules decide.
+    pub fn zone(self) -> ZoneWords<'m, 'a>
         ensures { result ≡ request_zone self.entry }
     {
         match self {

@@ -1,7 +1,7 @@
 -- The books after an event, and the objects that it doesn't touch.
 use Rattle.std.proofs.Common.{◌≡◌, ◌≢◌, ℕ, zero, suc, ◌<◌, Bool, true, false, cond, List, [], ◌∷◌, length, replicate, get_or, slice_get, Option, Some, None, refl, sym, ap, subst, ◌∙◌, arith, inl, inr}
 use Rattle.std.specs.Option.{option_map_or}
-use Rattle.std.proofs.lemmas.Bool.{eq-eqb, ne_eqb}
+use Rattle.std.proofs.lemmas.Bool.{eq-eqb, ne_eqb, or_parts}
 use Rattle.std.proofs.lemmas.List.{length-replicate}
 use Rattle.std.proofs.lemmas.Option.{same_Some, slice_get_within}
 use Rattle.due_model.specs.declared.config.Config.{Config}
@@ -11,7 +11,9 @@ use Rattle.due_model.specs.declared.event.Event.{Event}
 use Rattle.due_model.specs.declared.event.EventKind.{EventKind}
 use Rattle.due_model.specs.declared.event.EventKind.TheVariants as event
 use Rattle.due_model.specs.declared.zone.Zone.{Zone}
-use Rattle.due_model.specs.Histories.{hist}
+use Rattle.due_model.specs.declared.notice.Outcome.TheVariants.{Nothing}
+use Rattle.due_model.specs.Histories.{hist, repeats}
+use Rattle.due_model.specs.Readings.{moment}
 use Rattle.messages.specs.Entries.{object_entries, outcome_entries}
 use Rattle.problem_count.specs.Book.{BookValues, new_book}
 use Rattle.problem_count.specs.Fits.{BookFits, book_of, outcome_at}
@@ -32,7 +34,9 @@ touches_other (event.Program on) p is o ne due t = cc
 touches_other (event.Hard q state) p is o ne due t = ne_eqb q.0 o (λ e. ne (sym e ∙ ap (λ (i : ObjectId). i.0) (same_Some q p is)))
 touches_other (event.Downtime q change) p is o ne due t = ne_eqb q.0 o (λ e. ne (sym e ∙ ap (λ (i : ObjectId). i.0) (same_Some q p is)))
 touches_other (event.Flapping q starts) p is o ne due t = ne_eqb q.0 o (λ e. ne (sym e ∙ ap (λ (i : ObjectId). i.0) (same_Some q p is)))
-touches_other (event.Ack q sticky) p is o ne due t = ne_eqb q.0 o (λ e. ne (sym e ∙ ap (λ (i : ObjectId). i.0) (same_Some q p is)))
+touches_other (event.Ack q ack) p is o ne due t = ne_eqb q.0 o (λ e. ne (sym e ∙ ap (λ (i : ObjectId). i.0) (same_Some q p is)))
+touches_other (event.AckRemoved q) p is o ne due t = ne_eqb q.0 o (λ e. ne (sym e ∙ ap (λ (i : ObjectId). i.0) (same_Some q p is)))
+touches_other (event.OwnSwitch q on) p is o ne due t = ne_eqb q.0 o (λ e. ne (sym e ∙ ap (λ (i : ObjectId). i.0) (same_Some q p is)))
 
 -- and that one it touches
 pub touches_own : (k : EventKind) (p : ObjectId) → named_by k ≡ Some p → (due : Option ℕ) (t : ℕ) → touches p.0 k due t ≡ true
@@ -41,7 +45,9 @@ touches_own (event.Program on) p is due t = cc
 touches_own (event.Hard q state) p is due t = eq-eqb q.0 p.0 (ap (λ (i : ObjectId). i.0) (same_Some q p is))
 touches_own (event.Downtime q change) p is due t = eq-eqb q.0 p.0 (ap (λ (i : ObjectId). i.0) (same_Some q p is))
 touches_own (event.Flapping q starts) p is due t = eq-eqb q.0 p.0 (ap (λ (i : ObjectId). i.0) (same_Some q p is))
-touches_own (event.Ack q sticky) p is due t = eq-eqb q.0 p.0 (ap (λ (i : ObjectId). i.0) (same_Some q p is))
+touches_own (event.Ack q ack) p is due t = eq-eqb q.0 p.0 (ap (λ (i : ObjectId). i.0) (same_Some q p is))
+touches_own (event.AckRemoved q) p is due t = eq-eqb q.0 p.0 (ap (λ (i : ObjectId). i.0) (same_Some q p is))
+touches_own (event.OwnSwitch q on) p is due t = eq-eqb q.0 p.0 (ap (λ (i : ObjectId). i.0) (same_Some q p is))
 
 module _ (c : Config) (zone : Zone) (e : Event) (past : List Event) where
   pub after_is : (o : ℕ) (settings : Object) → slice_get c.objects o ≡ Some settings → book_after c zone e past o ≡ record { object = record { 0 = o }; book = book_of c zone o settings (e ∷ past) } ∷ []
@@ -62,6 +68,13 @@ module _ (c : Config) (zone : Zone) (e : Event) (past : List Event) where
       by_object (Some settings) h = by_test settings (is_touched c zone e past o settings) h
 
 module _ (laws : UntouchedFit) (c : Config) (zone : Zone) (e : Event) (past : List Event) where
+  -- of an object that an event doesn't touch nothing becomes, and its book fits on
+  pub untouched : (o : ℕ) (settings : Object) → is_touched c zone e past o settings ≡ false
+      → (outcome_at c zone o settings e past ≡ Nothing) × BookFits c zone o settings (e ∷ past) (book_of c zone o settings past)
+  untouched o settings quiet =
+      let parts = or_parts (repeats c o e.kind past) (touches o e.kind (book_of c zone o settings past).due (moment (e ∷ past))) quiet in
+      laws c zone o settings e past (book_of c zone o settings past) refl parts.1 parts.0
+
   -- an object that an event doesn't touch has no entries, and no new book
   pub no_entries : (o : ℕ) → ((settings : Object) → slice_get c.objects o ≡ Some settings → is_touched c zone e past o settings ≡ false) → object_entries c zone e past o ≡ []
   no_entries o quiet = by_object (slice_get c.objects o) refl
@@ -70,7 +83,7 @@ module _ (laws : UntouchedFit) (c : Config) (zone : Zone) (e : Event) (past : Li
           → option_map_or (λ object. outcome_entries c zone o object (length past) (outcome_at c zone o object e past)) found [] ≡ []
       by_object None h = refl
       by_object (Some settings) h =
-          ap (outcome_entries c zone o settings (length past)) (laws c zone o settings e past (book_of c zone o settings past) refl (quiet settings h)).0
+          ap (outcome_entries c zone o settings (length past)) (untouched o settings (quiet settings h)).0
 
   pub no_books : (o : ℕ) → ((settings : Object) → slice_get c.objects o ≡ Some settings → is_touched c zone e past o settings ≡ false) → new_books c zone e past o ≡ []
   no_books o quiet = by_object (slice_get c.objects o) refl
@@ -96,7 +109,7 @@ module _ (laws : UntouchedFit) (c : Config) (zone : Zone) (e : Event) (past : Li
       by_test true is = ap (λ decided. book_decided decided old) (touched_books o settings at is ∙ after_is c zone e past o settings at)
       by_test false is =
           ap (λ decided. book_decided decided old) (no_books o (λ other h. subst (λ (x : Object). is_touched c zone e past o x ≡ false) (same_Some settings other (sym at ∙ h)) is))
-          ∙ fits ∙ (laws c zone o settings e past (book_of c zone o settings past) refl is).1
+          ∙ fits ∙ (untouched o settings is).1
 
   -- the books after the event fit the past with it
   pub books_fit : (share : Share) (books : List BookValues) → BooksFit c zone share past books

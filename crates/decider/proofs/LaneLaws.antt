@@ -14,8 +14,10 @@ use Rattle.due_model.specs.declared.notice.Outcome.{Outcome}
 use Rattle.due_model.specs.declared.notice.Outcome.TheVariants as outcome
 use Rattle.due_model.specs.declared.notice.Suppression.{Suppression}
 use Rattle.due_model.specs.declared.zone.Zone.{Zone}
-use Rattle.due_model.specs.Due.{due_at, notice_to, notices, receivers, refusal_of, suppressed_at, suppressions}
+use Rattle.due_model.specs.Due.{due_at, notice_to, notices, refusal_of, suppressed_at, suppressions}
+use Rattle.due_model.specs.Receivers.{receivers}
 use Rattle.due_model.specs.Histories.{hist, outcome as outcome_of}
+use Rattle.due_model.specs.declared.options.OptionLetters.{OptionLetters}
 use Rattle.due_model.specs.declared.rules.Attempt.{Attempt}
 use Rattle.lemmas.proofs.Notices.{notice_to_cases}
 use Rattle.messages.specs.declared.entries.Entry.{Entry}
@@ -67,39 +69,40 @@ suppressions_of_withheld (s ∷ ss) = ap (λ ts. s ∷ ts) (suppressions_of_with
 
 -- ---- what an event adds to a lane
 
-on_own_lane : (c : Config) (zone : Zone) (o : ℕ) (object : Object) (event number : ℕ) (a : Attempt) (k l m : ℕ)
-    → (m ≡ l → filter (is_on l) (notice_to c zone o object m event number a k) ≡ notice_to c zone o object m event number a k)
-    × (m ≢ l → filter (is_on l) (notice_to c zone o object m event number a k) ≡ [])
-on_own_lane c zone o object event number a k l m = (
-  λ e. notice_to_cases c zone o object m event number a k (λ ns. filter (is_on l) ns ≡ ns) refl (rw (eq-eqb m l e) refl),
-  λ ne. notice_to_cases c zone o object m event number a k (λ ns. filter (is_on l) ns ≡ []) refl (rw (ne_eqb m l ne) refl),
+on_own_lane : (c : Config) (zone : Zone) (o : ℕ) (object : Object) (event number : ℕ) (a : Attempt) (told : Option OptionLetters) (k l m : ℕ)
+    → (m ≡ l → filter (is_on l) (notice_to c zone o object m event number a told k) ≡ notice_to c zone o object m event number a told k)
+    × (m ≢ l → filter (is_on l) (notice_to c zone o object m event number a told k) ≡ [])
+on_own_lane c zone o object event number a told k l m = (
+  λ e. notice_to_cases c zone o object m event number a told k (λ ns. filter (is_on l) ns ≡ ns) refl (rw (eq-eqb m l e) refl),
+  λ ne. notice_to_cases c zone o object m event number a told k (λ ns. filter (is_on l) ns ≡ []) refl (rw (ne_eqb m l ne) refl),
 )
 
-contact_notices : (c : Config) (zone : Zone) (o : ℕ) (object : Object) (event number : ℕ) (a : Attempt) (l k : ℕ) → l < length c.lanes
-    → filter (is_on l) (notices_in (contact_entries c zone o object event number a k)) ≡ notice_to c zone o object l event number a k
-contact_notices c zone o object event number a l k h =
-    let gives : ℕ → List Notice = λ m. notice_to c zone o object m event number a k in
+contact_notices : (c : Config) (zone : Zone) (o : ℕ) (object : Object) (event number : ℕ) (a : Attempt) (told : Option OptionLetters) (l k : ℕ) → l < length c.lanes
+    → filter (is_on l) (notices_in (contact_entries c zone o object event number a told k)) ≡ notice_to c zone o object l event number a told k
+contact_notices c zone o object event number a told l k h =
+    let gives : ℕ → List Notice = λ m. notice_to c zone o object m event number a told k in
     let lanes = range_with_len 0 (length c.lanes) in
-    let refused = refusal_of c zone o object event number a k in
-    let among : notices_in (contact_entries c zone o object event number a k) ≡ flat_map gives lanes =
+    let refused = refusal_of c zone o object event number a told k in
+    let among : notices_in (contact_entries c zone o object event number a told k) ≡ flat_map gives lanes =
     flat_map-append notice_in (map Withheld refused) (flat_map (λ m. map Sent (gives m)) lanes)
     ∙ ap (λ ns. ns ++ notices_in (flat_map (λ m. map Sent (gives m)) lanes)) (notices_of_withheld refused)
     ∙ flat_flat (λ m. map Sent (gives m)) notice_in lanes
     ∙ flat_alike (λ m. notices_in (map Sent (gives m))) gives (λ m. notices_of_sent (gives m)) lanes
     in
     ap (filter (is_on l)) among ∙ filter_flat (is_on l) gives lanes
-    ∙ flat_at (λ m. filter (is_on l) (gives m)) l (λ m ne. (on_own_lane c zone o object event number a k l m).1 ne) 0 (length c.lanes) (omega arith) (omega arith)
-    ∙ (on_own_lane c zone o object event number a k l l).0 refl
+    ∙ flat_at (λ m. filter (is_on l) (gives m)) l (λ m ne. (on_own_lane c zone o object event number a told k l m).1 ne) 0 (length c.lanes) (omega arith) (omega arith)
+    ∙ (on_own_lane c zone o object event number a told k l l).0 refl
 
 outcome_notices : (c : Config) (zone : Zone) (o : ℕ) (object : Object) (event l : ℕ) (x : Outcome) → l < length c.lanes
     → filter (is_on l) (notices_in (outcome_entries c zone o object event x)) ≡ notices c zone o object l event x
 outcome_notices c zone o object event l outcome.Nothing h = refl
-outcome_notices c zone o object event l (outcome.Sent k state number moment gap) h =
+outcome_notices c zone o object event l (outcome.Sent k state number moment gap reach) h =
     let a : Attempt = record { kind = k; state = state; moment = moment } in
-    let ks = receivers c zone o object a number in
-    let has : ℕ → List Entry = contact_entries c zone o object event number a in
+    let told = reach.told in
+    let ks = receivers c zone o object a number reach.standing in
+    let has : ℕ → List Entry = contact_entries c zone o object event number a told in
     ap (filter (is_on l)) (flat_flat has notice_in ks) ∙ filter_flat (is_on l) (λ k. notices_in (has k)) ks
-    ∙ flat_alike (λ k. filter (is_on l) (notices_in (has k))) (notice_to c zone o object l event number a) (λ k. contact_notices c zone o object event number a l k h) ks
+    ∙ flat_alike (λ k. filter (is_on l) (notices_in (has k))) (notice_to c zone o object l event number a told) (λ k. contact_notices c zone o object event number a told l k h) ks
 outcome_notices c zone o object event l (outcome.Suppressed k state number moment why) h = refl
 
 object_notices : (c : Config) (zone : Zone) (e : Event) (past : List Event) (l o : ℕ) → l < length c.lanes
@@ -114,12 +117,12 @@ object_notices c zone e past l o h = by_object (slice_get c.objects o)
 
 -- ---- what it adds to the log
 
-contact_suppressions : (c : Config) (zone : Zone) (o : ℕ) (object : Object) (event number : ℕ) (a : Attempt) (k : ℕ)
-    → suppressions_in (contact_entries c zone o object event number a k) ≡ refusal_of c zone o object event number a k
-contact_suppressions c zone o object event number a k =
-    let gives : ℕ → List Notice = λ m. notice_to c zone o object m event number a k in
+contact_suppressions : (c : Config) (zone : Zone) (o : ℕ) (object : Object) (event number : ℕ) (a : Attempt) (told : Option OptionLetters) (k : ℕ)
+    → suppressions_in (contact_entries c zone o object event number a told k) ≡ refusal_of c zone o object event number a told k
+contact_suppressions c zone o object event number a told k =
+    let gives : ℕ → List Notice = λ m. notice_to c zone o object m event number a told k in
     let lanes = range_with_len 0 (length c.lanes) in
-    let refused = refusal_of c zone o object event number a k in
+    let refused = refusal_of c zone o object event number a told k in
     flat_map-append suppression_in (map Withheld refused) (flat_map (λ m. map Sent (gives m)) lanes)
     ∙ ap (λ ss. ss ++ suppressions_in (flat_map (λ m. map Sent (gives m)) lanes)) (suppressions_of_withheld refused)
     ∙ ap (λ ss. refused ++ ss) (flat_flat (λ m. map Sent (gives m)) suppression_in lanes
@@ -129,12 +132,13 @@ contact_suppressions c zone o object event number a k =
 outcome_suppressions : (c : Config) (zone : Zone) (o : ℕ) (object : Object) (event : ℕ) (x : Outcome)
     → suppressions_in (outcome_entries c zone o object event x) ≡ suppressions c zone o object event x
 outcome_suppressions c zone o object event outcome.Nothing = refl
-outcome_suppressions c zone o object event (outcome.Sent k state number moment gap) =
+outcome_suppressions c zone o object event (outcome.Sent k state number moment gap reach) =
     let a : Attempt = record { kind = k; state = state; moment = moment } in
-    let ks = receivers c zone o object a number in
-    let has : ℕ → List Entry = contact_entries c zone o object event number a in
+    let told = reach.told in
+    let ks = receivers c zone o object a number reach.standing in
+    let has : ℕ → List Entry = contact_entries c zone o object event number a told in
     flat_flat has suppression_in ks
-    ∙ flat_alike (λ k. suppressions_in (has k)) (refusal_of c zone o object event number a) (λ k. contact_suppressions c zone o object event number a k) ks
+    ∙ flat_alike (λ k. suppressions_in (has k)) (refusal_of c zone o object event number a told) (λ k. contact_suppressions c zone o object event number a told k) ks
 outcome_suppressions c zone o object event (outcome.Suppressed k state number moment why) = refl
 
 object_suppressions : (c : Config) (zone : Zone) (e : Event) (past : List Event) (o : ℕ) → suppressions_in (object_entries c zone e past o) ≡ suppressed_gain c zone e past o

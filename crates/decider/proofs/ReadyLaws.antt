@@ -1,10 +1,10 @@
 -- The index after an event, what the clock finds in it, and how much it hands out.
-use Rattle.std.proofs.Common.{◌≡◌, ◌≢◌, ◌⊎◌, ℕ, zero, suc, ◌+◌, ◌%◌, ◌^◌, ◌<◌, ◌≤◌, Bool, true, false, cond, ◌==◌, ◌&&◌, List, [], ◌∷◌, ◌++◌, length, filter, drop, slice_get, get_or, All, Option, Some, None, refl, sym, ap, subst, ◌∙◌, arith, inl, inr, length-append}
+use Rattle.std.proofs.Common.{◌≡◌, ◌≢◌, ◌⊎◌, ℕ, zero, suc, ◌+◌, ◌%◌, ◌^◌, ◌<◌, ◌≤◌, Bool, true, false, cond, ◌==◌, ◌&&◌, ◌||◌, List, [], ◌∷◌, ◌++◌, length, filter, drop, slice_get, get_or, All, Option, Some, None, refl, sym, ap, subst, ◌∙◌, arith, inl, inr, length-append}
 use Rattle.std.specs.List.{range_with_len}
 use Rattle.std.specs.Option.{option_map_or}
 use Rattle.std.proofs.Math.Nat.{mod-eq_of_lt}
 use Rattle.std.proofs.Math.Seq.{drop-cons}
-use Rattle.std.proofs.lemmas.Bool.{cases_eq, cases_lt, eq-eqb, false≢true, ne_eqb}
+use Rattle.std.proofs.lemmas.Bool.{cases_eq, cases_lt, eq-eqb, false≢true, ne_eqb, or_parts}
 use Rattle.std.proofs.lemmas.List.{append-nil}
 use Rattle.std.proofs.lemmas.List.Elements.{All-append, filter-append}
 use Rattle.std.proofs.lemmas.List.FromFn.{length-range_with_len}
@@ -17,14 +17,15 @@ use Rattle.due_model.specs.declared.event.EventKind.{EventKind}
 use Rattle.due_model.specs.declared.event.EventKind.TheVariants as event
 use Rattle.due_model.specs.declared.zone.Zone.{Zone}
 use Rattle.due_model.specs.Accepted.{IsAccepted}
-use Rattle.due_model.specs.Histories.{ready}
+use Rattle.due_model.specs.Histories.{ready, ready_or, repeats}
 use Rattle.due_model.specs.Limits.{max_events}
-use Rattle.due_model.specs.Readings.{began, hard, is_problem_state, moment}
+use Rattle.due_model.specs.Changes.{delayed}
+use Rattle.due_model.specs.Readings.{hard, is_problem_state, moment}
 use Rattle.due_model.specs.Rules.{has_come}
 use Rattle.due_times.specs.Index.{Due, IsNextDue, NoneIsDueFrom, Sets, at, due_count}
 use Rattle.lemmas.proofs.Numbers.{below_more, flat_below, flat_more}
 use Rattle.messages.specs.Entries.{object_entries}
-use Rattle.problem_count.specs.Fits.{book_of, problem}
+use Rattle.problem_count.specs.Fits.{book_of, problem, released_after}
 use Rattle.problem_count.specs.Laws.{UntouchedFit, touches}
 use Rattle.decider.specs.declared.share.Share.{Share}
 use Rattle.decider.specs.declared.staging.NewBook.{NewBook}
@@ -35,7 +36,7 @@ use Rattle.decider.specs.Events.{IsAt, Values}
 use Rattle.decider.specs.Staging.{Adds}
 use Rattle.decider.specs.Ready.{HasRoom, IndexFits, IsIndexAfter, entry_decided, handed_after, is_clock, is_ready, judged, left_after, ready_of}
 use Rattle.decider.specs.Share.{is_owned, owned_numbers}
-use Rattle.decider.proofs.BookLaws.{after_is, no_books, no_entries, one, touched_books}
+use Rattle.decider.proofs.BookLaws.{after_is, no_books, no_entries, one, touched_books, untouched}
 use Rattle.decider.proofs.SettleLaws.{AtMostOne}
 use Rattle.lemmas.proofs.Lists.{some_at}
 use Rattle.decider.proofs.StagingLaws.{adds_next, adds_same}
@@ -109,7 +110,9 @@ none_left (event.Program on) t = refl
 none_left (event.Hard p state) t = refl
 none_left (event.Downtime p change) t = refl
 none_left (event.Flapping p starts) t = refl
-none_left (event.Ack p sticky) t = refl
+none_left (event.Ack p ack) t = refl
+none_left (event.AckRemoved p) t = refl
+none_left (event.OwnSwitch p on) t = refl
 
 -- what is left of the entry of an object that the event doesn't touch is all of it
 untouched_left : (k : EventKind) (o : ℕ) (due : Option ℕ) (t : ℕ) → touches o k due t ≡ false → left_after k t due ≡ due
@@ -118,7 +121,9 @@ untouched_left (event.Program on) o due t h = refl
 untouched_left (event.Hard p state) o due t h = refl
 untouched_left (event.Downtime p change) o due t h = refl
 untouched_left (event.Flapping p starts) o due t h = refl
-untouched_left (event.Ack p sticky) o due t h = refl
+untouched_left (event.Ack p ack) o due t h = refl
+untouched_left (event.AckRemoved p) o due t h = refl
+untouched_left (event.OwnSwitch p on) o due t h = refl
 
 module _ (c : Config) (zone : Zone) (share : Share) (past : List Event) where
   -- the ready moment of an object of the share
@@ -175,8 +180,8 @@ module _ (laws : UntouchedFit) (c : Config) (zone : Zone) (share : Share) (e : E
       by_test false is =
           ap (λ decided. entry_decided decided o old) (no_books laws c zone e past o (λ other h. subst (λ (x : Object). is_touched c zone e past o x ≡ false) (same_settings other h) is))
           ∙ ap (left_after e.kind (moment (e ∷ past))) (ready_at c zone share past o settings at owned)
-          ∙ untouched_left e.kind o (book_of c zone o settings past).due (moment (e ∷ past)) is
-          ∙ ap (λ (b : _). b.due) (laws c zone o settings e past (book_of c zone o settings past) refl is).1
+          ∙ untouched_left e.kind o (book_of c zone o settings past).due (moment (e ∷ past)) (or_parts (repeats c o e.kind past) (touches o e.kind (book_of c zone o settings past).due (moment (e ∷ past))) is).1
+          ∙ ap (λ (b : _). b.due) (untouched laws c zone e past o settings is).1
           ∙ sym (ready_at c zone share (e ∷ past) o settings at owned)
         where
           same_settings : (other : Object) → slice_get c.objects o ≡ Some other → settings ≡ other
@@ -278,13 +283,13 @@ module _ (c : Config) (zone : Zone) (share : Share) (e : Event) (past : List Eve
   ready_test : (o : ℕ) → has_come (ready_of c zone share past o) (moment (e ∷ past)) ≡ (is_owned share o && is_ready c zone e past o)
   ready_test o = by_share (is_owned share o)
     where
-      by_state : (settings : Object) (b : Bool) → has_come (cond b (ready c zone settings (began o past) (problem c zone o settings past)) None) (moment (e ∷ past))
-          ≡ (b && has_come (ready c zone settings (began o past) (problem c zone o settings past)) (moment (e ∷ past)))
+      by_state : (settings : Object) (b : Bool) → has_come (cond b (ready_or (released_after c zone o settings past) (ready c zone settings (delayed c o past) (problem c zone o settings past))) None) (moment (e ∷ past))
+          ≡ (b && has_come (ready_or (released_after c zone o settings past) (ready c zone settings (delayed c o past) (problem c zone o settings past))) (moment (e ∷ past)))
       by_state settings true = refl
       by_state settings false = refl
 
       by_object : (found : Option Object) → has_come (option_map_or (λ s. (book_of c zone o s past).due) found None) (moment (e ∷ past))
-          ≡ option_map_or (λ s. is_problem_state (hard o past) && has_come (ready c zone s (began o past) (problem c zone o s past)) (moment (e ∷ past))) found false
+          ≡ option_map_or (λ s. is_problem_state (hard o past) && has_come (ready_or (released_after c zone o s past) (ready c zone s (delayed c o past) (problem c zone o s past))) (moment (e ∷ past))) found false
       by_object None = refl
       by_object (Some settings) = by_state settings (is_problem_state (hard o past))
 
@@ -389,7 +394,7 @@ module _ (laws : UntouchedFit) (v : Values) (e : Event) (past : List Event) (is 
   touched_by : (o : ℕ) (settings : Object) → slice_get v.config.objects o ≡ Some settings → is_owned v.share o ≡ true
       → is_touched v.config v.zone e past o settings ≡ has_come (at v.index.moments o) v.context.moment
   touched_by o settings at' owned =
-      ap (λ (k : EventKind). touches o k (book_of v.config v.zone o settings past).due (moment (e ∷ past))) kind_is
+      ap (λ (k : EventKind). repeats v.config o k past || touches o k (book_of v.config v.zone o settings past).due (moment (e ∷ past))) kind_is
       ∙ ap (λ (x : Option ℕ). has_come x (moment (e ∷ past))) (sym (ready_at v.config v.zone v.share past o settings at' owned) ∙ sym (is.indexed.each o))
       ∙ ap (λ (t : ℕ). has_come (at v.index.moments o) t) (sym is.at)
 

@@ -1,7 +1,9 @@
 -- What is staged is what the definitions say.
-use Rattle.std.proofs.Common.{◌≡◌, ℕ, ◌+◌, ◌^◌, ◌<◌, ◌≤◌, Bool, true, cond, List, [], ◌∷◌, ◌++◌, length, get_or, slice_get, slice_index_or, Option, Some, sym, ap, subst, ◌∙◌, arith, append_assoc, add-one}
+use Rattle.std.proofs.Common.{◌≡◌, ◌≢◌, ℕ, ◌+◌, ◌^◌, ◌<◌, ◌≤◌, ◌==◌, ◌||◌, Bool, true, false, cond, inl, inr, is_some, refl, None, IfSome, List, [], ◌∷◌, ◌++◌, length, get_or, slice_get, slice_index_or, Option, Some, sym, ap, subst, ◌∙◌, arith, append_assoc, add-one}
 use Rattle.std.specs.Option.{option_map_or}
+use Rattle.std.proofs.lemmas.Bool.{and_parts, eq-eqb, eqb-true, false≢true, ne_eqb}
 use Rattle.std.proofs.lemmas.List.{append-nil, get_or_default}
+use Rattle.std.proofs.lemmas.Option.{same_Some, slice_get_within}
 use Rattle.due_model.specs.declared.config.Object.{Object}
 use Rattle.due_model.specs.declared.config.ObjectId.{ObjectId}
 use Rattle.due_model.specs.declared.event.Event.{Event}
@@ -10,15 +12,23 @@ use Rattle.due_model.specs.declared.event.EventKind.TheVariants as event
 use Rattle.due_model.specs.declared.notice.Outcome.{Outcome}
 use Rattle.due_model.specs.declared.rules.ObjectStatus.{ObjectStatus}
 use Rattle.due_model.specs.Limits.{last_moment}
-use Rattle.due_model.specs.Readings.{moment}
-use Rattle.lemmas.proofs.Numbers.{flat_below, flat_more, flat_none, flat_one}
+use Rattle.due_model.specs.declared.config.Config.{Config}
+use Rattle.due_model.specs.declared.notice.Outcome.TheVariants.{Nothing, Sent, Suppressed}
+use Rattle.due_model.specs.declared.state.State.{State}
+use Rattle.due_model.specs.Accepted.{IsAccepted, IsHost, ObjectFits}
+use Rattle.due_model.specs.Histories.{repeats}
+use Rattle.due_model.specs.Readings.{hard, hard_after, is_problem_state, moment}
+use Rattle.due_model.specs.Rules.{same_state}
+use Rattle.lemmas.proofs.Numbers.{flat_below, flat_more, flat_none, flat_one, flat_two}
+use Rattle.lemmas.proofs.Lists.{All-slice_get}
 use Rattle.messages.specs.declared.entries.Entry.{Entry}
 use Rattle.messages.specs.Entries.{object_entries, outcome_entries}
 use Rattle.outcomes.specs.declared.found.Found.{Found}
 use Rattle.outcomes.specs.Found.{IsFound}
+use Rattle.outcomes.specs.Outcome.{with_heard}
 use Rattle.problem_count.specs.Book.{BookValues, new_book}
 use Rattle.problem_count.specs.Fits.{BookFits, book_of, outcome_at}
-use Rattle.problem_count.specs.Laws.{CountsAreFew, UntouchedFit, touches}
+use Rattle.problem_count.specs.Laws.{CountsAreFew, RepeatsRun, UntouchedFit, touches}
 use Rattle.decider.specs.declared.reading.Reading.{Reading}
 use Rattle.decider.specs.declared.staging.NewBook.{NewBook}
 use Rattle.decider.specs.declared.staging.Staged.{Staged}
@@ -26,8 +36,8 @@ use Rattle.decider.specs.Books.{book_after, is_touched, new_books, share_books}
 use Rattle.decider.specs.Entries.{share_entries}
 use Rattle.decider.specs.Events.{IsAt, Values, values}
 use Rattle.decider.specs.Share.{is_owned}
-use Rattle.decider.specs.Staging.{Adds}
-use Rattle.decider.specs.Statuses.{StatusLists, named_by}
+use Rattle.decider.specs.Staging.{Adds, ArePair}
+use Rattle.decider.specs.Statuses.{StatusLists, hard_by, named_by}
 use Rattle.decider.proofs.BookLaws.{no_books, no_entries, touches_other, touches_own}
 use Rattle.decider.proofs.StatusLaws.{depth_few, named_within}
 
@@ -51,12 +61,29 @@ module _ (v : Values) (e : Event) (past : List Event) (is : IsAt v e past) (o : 
     pub depth_fits : found.before.depth + 1 < 2 ^ 64
     depth_fits = omega (arith, ap (λ (s : ObjectStatus). s.depth) finds.before, depth_few o past, is.short)
 
+  -- an event that attempts its problem again leaves it a problem
+  pub repeats_fits : (found : Found) → IsFound v.config v.zone o settings e past found → RepeatsRun
+      → found.repeats ≡ true → is_problem_state found.before.state ≡ true → is_problem_state (hard_after o found.event found.before.state) ≡ true
+  repeats_fits found finds run again runs =
+      let state : found.before.state ≡ hard o past = ap (λ (s : ObjectStatus). s.state) finds.before in
+      ap (λ (k : EventKind). is_problem_state (hard_after o k found.before.state)) finds.event
+      ∙ ap (λ (s : State). is_problem_state (hard_after o e.kind s)) state
+      ∙ run v.config o e.kind past (sym finds.repeats ∙ again) (ap is_problem_state (sym state) ∙ runs)
+
+  -- its entries don't tell whether a notice counts
+  entries_heard : (heard : Bool) (outcome : Outcome)
+      → outcome_entries v.config v.zone o settings (length past) outcome ≡ outcome_entries v.config v.zone o settings (length past) (with_heard heard outcome)
+  entries_heard heard Nothing = refl
+  entries_heard heard (Sent k s n t gap reach) = refl
+  entries_heard heard (Suppressed k s n t why) = refl
+
   -- the entries of the outcome are the object's
-  pub entries_are : (outcome : Outcome) → outcome ≡ outcome_at v.config v.zone o settings e past
+  pub entries_are : (heard : Bool) (outcome : Outcome) → outcome_at v.config v.zone o settings e past ≡ with_heard heard outcome
       → outcome_entries v.config v.zone o settings v.context.number outcome ≡ object_entries v.config v.zone e past o
-  entries_are outcome same =
+  entries_are heard outcome same =
       ap (λ (n : ℕ). outcome_entries v.config v.zone o settings n outcome) is.number
-      ∙ ap (outcome_entries v.config v.zone o settings (length past)) same
+      ∙ entries_heard heard outcome
+      ∙ ap (outcome_entries v.config v.zone o settings (length past)) (sym same)
       ∙ sym (ap (λ (found : Option Object). option_map_or (λ object. outcome_entries v.config v.zone o object (length past) (outcome_at v.config v.zone o object e past)) found []) at)
 
   -- the new book is the object's
@@ -73,39 +100,170 @@ book_read books o i d place within = ap (λ (k : ℕ). get_or books k d) place �
 
 -- ---- all objects of the share
 
+either : (a b : Bool) → b ≡ true → (a || b) ≡ true
+either true b is = refl
+either false b is = is
+
+neither : (a b : Bool) → a ≡ false → b ≡ false → (a || b) ≡ false
+neither true b known none = known
+neither false b known none = none
+
 -- the object that an event names is touched by it
 pub named_touched : (v : Values) (e : Event) (past : List Event) → IsAt v e past → (p : ObjectId) (settings : Object) → named_by v.context.kind ≡ Some p
     → is_touched v.config v.zone e past p.0 settings ≡ true
-named_touched v e past is p settings named = touches_own e.kind p (sym (ap named_by is.says) ∙ named) (book_of v.config v.zone p.0 settings past).due (moment (e ∷ past))
+named_touched v e past is p settings named =
+    either (repeats v.config p.0 e.kind past) (touches p.0 e.kind (book_of v.config v.zone p.0 settings past).due (moment (e ∷ past)))
+    (touches_own e.kind p (sym (ap named_by is.says) ∙ named) (book_of v.config v.zone p.0 settings past).due (moment (e ∷ past)))
+
+-- and so is one whose problem it attempts again
+repeated_touched : (v : Values) (e : Event) (past : List Event) (o : ℕ) (settings : Object) → repeats v.config o e.kind past ≡ true
+    → is_touched v.config v.zone e past o settings ≡ true
+repeated_touched v e past o settings again =
+    ap (λ (b : Bool). b || touches o e.kind (book_of v.config v.zone o settings past).due (moment (e ∷ past))) again
+
+-- the host of a service is there, and another object
+other_host : (c : Config) (h p : ℕ) (service : Object) (host : ObjectId) → IsAccepted c → slice_get c.objects p ≡ Some service → service.host ≡ Some host → host.0 ≡ h
+    → (h < length c.objects) × (h ≢ p)
+other_host c h p service host accepted at is same =
+    let here : IsHost c host.0 = subst (λ (found : Option ObjectId). IfSome found (λ x. IsHost c x.0)) is (All-slice_get (ObjectFits c) c.objects p service accepted.objects at).host in (
+      subst (λ (n : ℕ). n < length c.objects) same (slice_get_within c.objects host.0 here.0 here.1),
+      λ e. false≢true (ap is_some (sym here.2) ∙ ap (λ (x : Object). is_some x.host) (same_Some here.0 service (sym here.1 ∙ ap (slice_get c.objects) (same ∙ e) ∙ at)) ∙ ap is_some is),
+    )
+
+repeats_other : (c : Config) (h : ℕ) (k : EventKind) (past : List Event) (p : ObjectId) → IsAccepted c → named_by k ≡ Some p → repeats c h k past ≡ true
+    → (h < length c.objects) × (h ≢ p.0)
+repeats_other c h event.Clock past p accepted named again = cc
+repeats_other c h (event.Program on) past p accepted named again = cc
+repeats_other c h (event.Hard q s) past p accepted named again =
+    by_service (slice_get c.objects q.0) refl (and_parts c.choices.host_repeats _ (and_parts _ (is_problem_state s) (and_parts _ (same_state s (hard q.0 past)) again).0).0).1
+  where
+    by_host : (service : Object) → slice_get c.objects q.0 ≡ Some service → (found : Option ObjectId) → service.host ≡ found
+        → elim found as (λ _. Bool) [ None ↦ false | Some host ↦ host.0 == h ] ≡ true → (h < length c.objects) × (h ≢ p.0)
+    by_host service at None is so = absurd (false≢true so)
+    by_host service at (Some host) is so =
+        subst (λ (i : ℕ). (h < length c.objects) × (h ≢ i)) (ap (λ (x : ObjectId). x.0) (same_Some q p named))
+        (other_host c h q.0 service host accepted at is (eqb-true host.0 h so))
+
+    by_service : (found : Option Object) → slice_get c.objects q.0 ≡ found
+        → elim found as (λ _. Bool) [ None ↦ false | Some service ↦ elim service.host as (λ _. Bool) [ None ↦ false | Some host ↦ host.0 == h ] ] ≡ true
+        → (h < length c.objects) × (h ≢ p.0)
+    by_service None at so = absurd (false≢true so)
+    by_service (Some service) at so = by_host service at service.host refl so
+repeats_other c h (event.Downtime q change) past p accepted named again = cc
+repeats_other c h (event.Flapping q starts) past p accepted named again = cc
+repeats_other c h (event.Ack q ack) past p accepted named again = cc
+repeats_other c h (event.AckRemoved q) past p accepted named again = cc
+repeats_other c h (event.OwnSwitch q on) past p accepted named again = cc
+
+-- an event that gives no hard state attempts no problem again
+pub none_again : (c : Config) (k : EventKind) (past : List Event) → hard_by k ≡ None → (o : ℕ) → repeats c o k past ≡ false
+none_again c event.Clock past none o = refl
+none_again c (event.Program on) past none o = refl
+none_again c (event.Hard p s) past none o = cc
+none_again c (event.Downtime p change) past none o = refl
+none_again c (event.Flapping p starts) past none o = refl
+none_again c (event.Ack p ack) past none o = refl
+none_again c (event.AckRemoved p) past none o = refl
+none_again c (event.OwnSwitch p on) past none o = refl
 
 module _ (laws : UntouchedFit) (v : Values) (e : Event) (past : List Event) (is : IsAt v e past) where
-  -- an event that names an object gives entries and books of that one alone
-  pub named_entries : (p : ObjectId) → named_by v.context.kind ≡ Some p
-      → share_entries v.config v.zone v.share e past ≡ cond (is_owned v.share p.0) (object_entries v.config v.zone e past p.0) []
-  named_entries p named =
-      let names : named_by e.kind ≡ Some p = sym (ap named_by is.says) ∙ named in
-      flat_one (object_entries v.config v.zone e past) (is_owned v.share) (length v.config.objects) p.0 (named_within v.config e.kind is.proper.kind p names)
-      (λ o below ne. no_entries laws v.config v.zone e past o (λ settings at. touches_other e.kind p names o ne (book_of v.config v.zone o settings past).due (moment (e ∷ past))))
+  names_is : (p : ObjectId) → named_by v.context.kind ≡ Some p → named_by e.kind ≡ Some p
+  names_is p named = sym (ap named_by is.says) ∙ named
 
-  pub named_books : (p : ObjectId) → named_by v.context.kind ≡ Some p
+  -- an event that names an object touches no other but one whose problem it attempts again
+  quiet : (p : ObjectId) → named_by e.kind ≡ Some p → (o : ℕ) → o ≢ p.0 → repeats v.config o e.kind past ≡ false → (settings : Object) → is_touched v.config v.zone e past o settings ≡ false
+  quiet p names o ne none settings =
+      neither (repeats v.config o e.kind past) (touches o e.kind (book_of v.config v.zone o settings past).due (moment (e ∷ past))) none
+      (touches_other e.kind p names o ne (book_of v.config v.zone o settings past).due (moment (e ∷ past)))
+
+  -- one that attempts no problem again gives entries and books of the object alone that it names
+  pub named_entries : (p : ObjectId) → named_by v.context.kind ≡ Some p → ((o : ℕ) → repeats v.config o e.kind past ≡ false)
+      → share_entries v.config v.zone v.share e past ≡ cond (is_owned v.share p.0) (object_entries v.config v.zone e past p.0) []
+  named_entries p named none =
+      let names : named_by e.kind ≡ Some p = names_is p named in
+      flat_one (object_entries v.config v.zone e past) (is_owned v.share) (length v.config.objects) p.0 (named_within v.config e.kind is.proper.kind p names)
+      (λ o below ne. no_entries laws v.config v.zone e past o (λ settings at. quiet p names o ne (none o) settings))
+
+  pub named_books : (p : ObjectId) → named_by v.context.kind ≡ Some p → ((o : ℕ) → repeats v.config o e.kind past ≡ false)
       → share_books v.config v.zone v.share e past ≡ cond (is_owned v.share p.0) (new_books v.config v.zone e past p.0) []
-  named_books p named =
-      let names : named_by e.kind ≡ Some p = sym (ap named_by is.says) ∙ named in
+  named_books p named none =
+      let names : named_by e.kind ≡ Some p = names_is p named in
       flat_one (new_books v.config v.zone e past) (is_owned v.share) (length v.config.objects) p.0 (named_within v.config e.kind is.proper.kind p names)
-      (λ o below ne. no_books laws v.config v.zone e past o (λ settings at. touches_other e.kind p names o ne (book_of v.config v.zone o settings past).due (moment (e ∷ past))))
+      (λ o below ne. no_books laws v.config v.zone e past o (λ settings at. quiet p names o ne (none o) settings))
+
+  -- one that attempts the problem of a host again
+  module _ (p h : ObjectId) (named : named_by v.context.kind ≡ Some p) (again : (o : ℕ) → repeats v.config o e.kind past ≡ (h.0 == o)) where
+    host_again : repeats v.config h.0 e.kind past ≡ true
+    host_again = again h.0 ∙ eq-eqb h.0 h.0 refl
+
+    host_there : (h.0 < length v.config.objects) × (h.0 ≢ p.0)
+    host_there = repeats_other v.config h.0 e.kind past p is.accepted (names_is p named) host_again
+
+    not_again : (o : ℕ) → o ≢ h.0 → repeats v.config o e.kind past ≡ false
+    not_again o ne = again o ∙ ne_eqb h.0 o (λ e'. ne (sym e'))
+
+    module _ (first second : ObjectId) (are : ArePair h p (record { first = first; second = second })) where
+      -- touches those two
+      pub pair_touched : ((settings : Object) → is_touched v.config v.zone e past first.0 settings ≡ true) × ((settings : Object) → is_touched v.config v.zone e past second.0 settings ≡ true)
+      pair_touched = elim are [
+        | inl same ↦ (
+          λ settings. rw same.0 (repeated_touched v e past h.0 settings host_again),
+          λ settings. rw same.1 (named_touched v e past is p settings named),
+        )
+        | inr same ↦ (
+          λ settings. rw same.0 (named_touched v e past is p settings named),
+          λ settings. rw same.1 (repeated_touched v e past h.0 settings host_again),
+        )
+      ]
+
+      -- which are there, and not one
+      pub pair_within : first.0 ≤ second.0 → (first.0 < second.0) × ((first.0 < length v.config.objects) × (second.0 < length v.config.objects))
+      pair_within order =
+          let named_there : p.0 < length v.config.objects = named_within v.config e.kind is.proper.kind p (names_is p named) in
+          elim are [
+            | inl same ↦
+                let least : h.0 ≤ p.0 = rw (same.0, same.1) at order in
+                let less : h.0 < p.0 = omega (arith, least, host_there.1) in
+                rw (same.0, same.1) (less, (host_there.0, named_there))
+            | inr same ↦
+                let least : p.0 ≤ h.0 = rw (same.0, same.1) at order in
+                let less : p.0 < h.0 = omega (arith, least, host_there.1) in
+                rw (same.0, same.1) (less, (named_there, host_there.0))
+          ]
+
+      others_quiet : (o : ℕ) → o ≢ first.0 → o ≢ second.0 → (settings : Object) → is_touched v.config v.zone e past o settings ≡ false
+      others_quiet o ne other settings = elim are [
+        | inl same ↦ quiet p (names_is p named) o (λ e'. other (e' ∙ ap (λ (x : ObjectId). x.0) (sym same.1))) (not_again o (λ e'. ne (e' ∙ ap (λ (x : ObjectId). x.0) (sym same.0)))) settings
+        | inr same ↦ quiet p (names_is p named) o (λ e'. ne (e' ∙ ap (λ (x : ObjectId). x.0) (sym same.0))) (not_again o (λ e'. other (e' ∙ ap (λ (x : ObjectId). x.0) (sym same.1)))) settings
+      ]
+
+      -- and gives entries and books of the two, in order
+      pub pair_entries : first.0 < second.0 → second.0 < length v.config.objects
+          → share_entries v.config v.zone v.share e past
+          ≡ cond (is_owned v.share first.0) (object_entries v.config v.zone e past first.0) [] ++ cond (is_owned v.share second.0) (object_entries v.config v.zone e past second.0) []
+      pair_entries order within =
+          flat_two (object_entries v.config v.zone e past) (is_owned v.share) (length v.config.objects) first.0 second.0 order within
+          (λ o below ne other. no_entries laws v.config v.zone e past o (λ settings at. others_quiet o ne other settings))
+
+      pub pair_books : first.0 < second.0 → second.0 < length v.config.objects
+          → share_books v.config v.zone v.share e past
+          ≡ cond (is_owned v.share first.0) (new_books v.config v.zone e past first.0) [] ++ cond (is_owned v.share second.0) (new_books v.config v.zone e past second.0) []
+      pair_books order within =
+          flat_two (new_books v.config v.zone e past) (is_owned v.share) (length v.config.objects) first.0 second.0 order within
+          (λ o below ne other. no_books laws v.config v.zone e past o (λ settings at. others_quiet o ne other settings))
 
   -- the program switch touches none
   pub switch_entries : (on : Bool) → v.context.kind ≡ event.Program on → share_entries v.config v.zone v.share e past ≡ []
   switch_entries on says =
       flat_none (object_entries v.config v.zone e past) (is_owned v.share) (length v.config.objects)
       (λ o below. no_entries laws v.config v.zone e past o (λ settings at.
-      ap (λ (k : EventKind). touches o k (book_of v.config v.zone o settings past).due (moment (e ∷ past))) (sym is.says ∙ says)))
+      ap (λ (k : EventKind). repeats v.config o k past || touches o k (book_of v.config v.zone o settings past).due (moment (e ∷ past))) (sym is.says ∙ says)))
 
   pub switch_books : (on : Bool) → v.context.kind ≡ event.Program on → share_books v.config v.zone v.share e past ≡ []
   switch_books on says =
       flat_none (new_books v.config v.zone e past) (is_owned v.share) (length v.config.objects)
       (λ o below. no_books laws v.config v.zone e past o (λ settings at.
-      ap (λ (k : EventKind). touches o k (book_of v.config v.zone o settings past).due (moment (e ∷ past))) (sym is.says ∙ says)))
+      ap (λ (k : EventKind). repeats v.config o k past || touches o k (book_of v.config v.zone o settings past).due (moment (e ∷ past))) (sym is.says ∙ says)))
 
 -- ---- one object after the other
 

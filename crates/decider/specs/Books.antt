@@ -1,10 +1,11 @@
 -- The books that are kept, and those after an event.
-use Rattle.std.specs.Prelude.{◌≡◌, ℕ, true, Bool, List, [], ◌∷◌, length, flat_map, slice_get, slice_set, slice_index_or, Some, if◌then◌else◌}
+use Rattle.std.specs.Prelude.{◌≡◌, ℕ, true, Bool, ◌||◌, List, [], ◌∷◌, length, flat_map, slice_get, slice_set, slice_index_or, Some, if◌then◌else◌}
 use Rattle.std.specs.Option.{option_map_or}
 use Rattle.due_model.specs.declared.config.Config.{Config}
 use Rattle.due_model.specs.declared.config.Object.{Object}
 use Rattle.due_model.specs.declared.event.Event.{Event}
 use Rattle.due_model.specs.declared.zone.Zone.{Zone}
+use Rattle.due_model.specs.Histories.{repeats}
 use Rattle.due_model.specs.Readings.{moment}
 use Rattle.problem_count.specs.Book.{BookValues, new_book}
 use Rattle.problem_count.specs.Fits.{BookFits, book_of}
@@ -31,10 +32,12 @@ book_after c zone e past o =
     } ∷ [])
     (slice_get c.objects o) []
 
--- whether an event touches object o: it names it, or it is the clock's and the object's problem is due
+-- whether an event touches object o: it names it, it is the clock's and the object's problem is due, or it attempts
+-- the object's problem again
 abbrev pub is_touched : Config → Zone → Event → List Event → (o : ℕ) → Object → Bool
 is_touched c zone e past o settings =
-    touches o e.kind (book_of c zone o settings past).due (moment (e ∷ past))
+    repeats c o e.kind past
+    || touches o e.kind (book_of c zone o settings past).due (moment (e ∷ past))
 
 -- its book after the event, if the event touches it
 abbrev pub new_books : Config → Zone → Event → List Event → (o : ℕ) → List NewBook

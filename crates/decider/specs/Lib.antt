@@ -1,5 +1,6 @@
 pub mod Share
 pub mod Statuses
+pub mod Found
 pub mod Books
 pub mod Ready
 pub mod Events

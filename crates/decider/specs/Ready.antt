@@ -4,14 +4,15 @@ use Rattle.std.specs.Option.{option_map_or}
 use Rattle.due_model.specs.declared.config.Config.{Config}
 use Rattle.due_model.specs.declared.event.Event.{Event}
 use Rattle.due_model.specs.declared.event.EventKind.{EventKind}
-use Rattle.due_model.specs.declared.event.EventKind.TheVariants.{Clock, Program, Hard, Downtime, Flapping, Ack}
+use Rattle.due_model.specs.declared.event.EventKind.TheVariants.{Clock, Program, Hard, Downtime, Flapping, Ack, AckRemoved, OwnSwitch}
 use Rattle.due_model.specs.declared.zone.Zone.{Zone}
-use Rattle.due_model.specs.Histories.{ready}
+use Rattle.due_model.specs.Histories.{ready, ready_or}
 use Rattle.due_model.specs.Limits.{max_objects}
-use Rattle.due_model.specs.Readings.{began, hard, is_problem_state, moment}
+use Rattle.due_model.specs.Changes.{delayed}
+use Rattle.due_model.specs.Readings.{hard, is_problem_state, moment}
 use Rattle.due_model.specs.Rules.{has_come}
 use Rattle.due_times.specs.Index.{Due, at, due_count, left_at}
-use Rattle.problem_count.specs.Fits.{book_of, problem}
+use Rattle.problem_count.specs.Fits.{book_of, problem, released_after}
 use Rattle.decider.specs.declared.share.Share.{Share}
 use Rattle.decider.specs.declared.staging.NewBook.{NewBook}
 use Rattle.decider.specs.Share.{is_owned, owned_numbers}
@@ -39,14 +40,17 @@ is_clock (Program on) = false
 is_clock (Hard o state) = false
 is_clock (Downtime o change) = false
 is_clock (Flapping o starts) = false
-is_clock (Ack o sticky) = false
+is_clock (Ack o ack) = false
+is_clock (AckRemoved o) = false
+is_clock (OwnSwitch o on) = false
 
 -- whether object o has a problem that is ready by the moment of an event
 abbrev pub is_ready : Config → Zone → Event → List Event → (o : ℕ) → Bool
 is_ready c zone e past o =
     option_map_or
     (λ settings. is_problem_state (hard o past)
-    && has_come (ready c zone settings (began o past) (problem c zone o settings past))
+    && has_come (ready_or (released_after c zone o settings past)
+    (ready c zone settings (delayed c o past) (problem c zone o settings past)))
     (moment (e ∷ past)))
     (slice_get c.objects o) false
 

@@ -3,20 +3,22 @@ use Rattle.std.specs.Prelude.{◌≡◌, ℕ, Bool, false, List, length, replica
 use Rattle.due_model.specs.declared.config.ObjectId.{ObjectId}
 use Rattle.due_model.specs.declared.event.Event.{Event}
 use Rattle.due_model.specs.declared.event.EventKind.{EventKind}
-use Rattle.due_model.specs.declared.event.EventKind.TheVariants.{Clock, Program, Hard, Downtime, Flapping, Ack}
+use Rattle.due_model.specs.declared.event.EventKind.TheVariants.{Clock, Program, Hard, Downtime, Flapping, Ack, AckRemoved, OwnSwitch}
 use Rattle.due_model.specs.declared.rules.ObjectStatus.{ObjectStatus}
 use Rattle.due_model.specs.declared.state.State.{State}
 use Rattle.due_model.specs.declared.state.State.TheVariants.{Pending}
 use Rattle.due_model.specs.Acknowledgements.{ack_after}
 use Rattle.due_model.specs.Histories.{status_after}
-use Rattle.due_model.specs.Readings.{depth_after, flapping_after, hard_after}
+use Rattle.due_model.specs.Readings.{depth_after, flapping_after, hard_after, switched_after}
 
--- each object's last hard state, how many of its downtimes run, whether it is flapping, and how its problem is acknowledged
+-- each object's last hard state, how many of its downtimes run, whether it is flapping, how its problem is acknowledged,
+-- and its own switch
 pub record StatusLists : Type 0 where
   pub states : List State
   pub depths : List ℕ
   pub flaps : List Bool
   pub acks : List (Option Bool)
+  pub switches : List (Option Bool)
 
 -- of so many objects of which nothing is known yet
 abbrev pub no_statuses : (objects : ℕ) → StatusLists
@@ -25,6 +27,7 @@ no_statuses objects = record {
   depths = replicate objects 0;
   flaps = replicate objects false;
   acks = replicate objects None;
+  switches = replicate objects None;
 }
 
 -- the status of object o
@@ -34,6 +37,7 @@ status_at s o = record {
   depth = slice_index_or s.depths o 0;
   flapping = slice_index_or s.flaps o false;
   acknowledged = slice_index_or s.acks o None;
+  switched = slice_index_or s.switches o None;
 }
 
 -- with this status of object o
@@ -43,6 +47,7 @@ with_status s o status = record {
   depths = slice_set s.depths o status.depth;
   flaps = slice_set s.flaps o status.flapping;
   acks = slice_set s.acks o status.acknowledged;
+  switches = slice_set s.switches o status.switched;
 }
 
 -- with this hard state of object o
@@ -61,6 +66,10 @@ with_flapping s o flapping = record s { flaps = slice_set s.flaps o flapping }
 abbrev pub with_ack : StatusLists → (o : ℕ) → Option Bool → StatusLists
 with_ack s o acknowledged = record s { acks = slice_set s.acks o acknowledged }
 
+-- with the own switch of object o so
+abbrev pub with_switch : StatusLists → (o : ℕ) → Option Bool → StatusLists
+with_switch s o switched = record s { switches = slice_set s.switches o switched }
+
 -- the status of object o after an event that says this, which was so before it
 abbrev pub status_by : (o : ℕ) → EventKind → ObjectStatus → ObjectStatus
 status_by o k old = record {
@@ -68,6 +77,7 @@ status_by o k old = record {
   depth = depth_after o k old.depth;
   flapping = flapping_after o k old.flapping;
   acknowledged = ack_after o k old.state old.acknowledged;
+  switched = switched_after o k old.switched;
 }
 
 -- the object that an event names
@@ -77,7 +87,9 @@ named_by (Program on) = None
 named_by (Hard o state) = Some o
 named_by (Downtime o change) = Some o
 named_by (Flapping o starts) = Some o
-named_by (Ack o sticky) = Some o
+named_by (Ack o ack) = Some o
+named_by (AckRemoved o) = Some o
+named_by (OwnSwitch o on) = Some o
 
 -- the object to which it gives a hard state, and that state
 abbrev pub hard_by : EventKind → Option (ObjectId × State)
@@ -86,7 +98,9 @@ hard_by (Program on) = None
 hard_by (Hard o state) = Some (o, state)
 hard_by (Downtime o change) = None
 hard_by (Flapping o starts) = None
-hard_by (Ack o sticky) = None
+hard_by (Ack o ack) = None
+hard_by (AckRemoved o) = None
+hard_by (OwnSwitch o on) = None
 
 -- the statuses after an event that says this
 abbrev pub statuses_after : EventKind → StatusLists → StatusLists
@@ -101,4 +115,5 @@ pub record StatusesFit (objects : ℕ) (past : List Event) (s : StatusLists) : T
   pub depths : length s.depths ≡ objects
   pub flaps : length s.flaps ≡ objects
   pub acks : length s.acks ≡ objects
+  pub switches : length s.switches ≡ objects
   pub each : (o : ℕ) → status_at s o ≡ status_after o past

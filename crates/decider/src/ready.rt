@@ -37,6 +37,8 @@ pub(crate) fn take_judged(index: &mut Index, event: EventKind, t: u64)
         EventKind::Downtime(_, _) => {}
         EventKind::Flapping(_, _) => {}
         EventKind::Ack(_, _) => {}
+        EventKind::AckRemoved(_) => {}
+        EventKind::OwnSwitch(_, _) => {}
     }
 }
 

@@ -1,18 +1,19 @@
 //! What an event decides, before any of it counts: the entries, and the books after it of the objects that it touches.
 
-ghost use Rattle.std.specs.Prelude.{◌≡◌, ◌<◌, ◌++◌, [], true, List, Some, length, slice_set};
-ghost use Rattle.std.specs.Prelude.{if◌then◌else◌, OnOk};
+ghost use Rattle.std.specs.Prelude.{◌≡◌, ◌<◌, ◌≤◌, ◌++◌, [], true, List, Some, length, slice_set};
+ghost use Rattle.std.specs.Prelude.{if◌then◌else◌, slice_get, OnOk};
+ghost use Rattle.due_model.specs.declared.config.Object.{Object};
 ghost use Rattle.due_model.specs.declared.event.Event.{Event};
 ghost use Rattle.due_model.specs.declared.event.EventKind.TheVariants.{Clock};
 ghost use Rattle.messages.specs.Entries.{object_entries};
 ghost use Rattle.decider.specs.Entries.{share_entries};
 ghost use Rattle.decider.specs.Events.{IsAt, values};
 ghost use Rattle.decider.specs.Share.{is_owned};
-ghost use Rattle.decider.specs.Books.{book_after, new_books, settled, share_books};
-ghost use Rattle.decider.specs.Staging.{Adds};
+ghost use Rattle.decider.specs.Books.{book_after, is_touched, new_books, settled, share_books};
+ghost use Rattle.decider.specs.Staging.{Adds, ArePair};
 ghost use Rattle.decider.specs.Statuses.{named_by};
 
-use crate::find::find;
+use crate::find::{find, repeated};
 use crate::reading::Reading;
 use crate::statuses::Statuses;
 use dependency::search::Search;
@@ -20,9 +21,9 @@ use due_model::config::{ContactId, ObjectId};
 use due_model::event::EventKind;
 use messages::entries::Entry;
 use messages::outcome::add_messages;
-use outcomes::outcome::decide;
+use outcomes::outcome::{conclude, decide};
 use problem_count::Book;
-use problem_count::laws::{count_few, fit_on};
+use problem_count::laws::{attempt_by_due, count_few, fit_on};
 use std::alloc::{AllocError, Global};
 
 /// The book of an object after an event.
@@ -93,7 +94,7 @@ pub(crate) fn stage_event(
     match reading.context.kind {
         EventKind::Clock => stage_due(alloc, reading, dependencies, statuses, staged),
         EventKind::Program(_) => Ok(()),
-        EventKind::Hard(object, _) => stage_owned(
+        EventKind::Hard(object, _) => stage_hard(
             alloc,
             reading,
             dependencies,
@@ -118,6 +119,22 @@ pub(crate) fn stage_event(
             staged,
         ),
         EventKind::Ack(object, _) => stage_owned(
+            alloc,
+            reading,
+            dependencies,
+            statuses,
+            object,
+            staged,
+        ),
+        EventKind::AckRemoved(object) => stage_owned(
+            alloc,
+            reading,
+            dependencies,
+            statuses,
+            object,
+            staged,
+        ),
+        EventKind::OwnSwitch(object, _) => stage_owned(
             alloc,
             reading,
             dependencies,
@@ -158,8 +175,9 @@ fn stage_due(
     Ok(())
 }
 
-/// Stages what becomes of the object that the event names, if it is in the share.
-fn stage_owned(
+/// Stages what becomes of the object that has a hard state, and of the host whose problem that attempts again, in object
+/// order, as far as they are in the share.
+fn stage_hard(
     alloc: Global,
     reading: &Reading<'_>,
     dependencies: &mut Search,
@@ -170,6 +188,67 @@ fn stage_owned(
     requires at { (e : Event) × (past : List Event)
         × IsAt (values reading.now dependencies.old statuses.old) e past }
     requires named { named_by reading.now.context.kind ≡ Some object }
+    ensures dependencies { dependencies.new ≡ dependencies.old }
+    ensures statuses { statuses.new ≡ statuses.old }
+    ensures staged { OnOk result ((e : Event) (past : List Event)
+        → IsAt (values reading.now dependencies.old statuses.old) e past
+        → Adds (share_entries reading.now.rules.config.now reading.now.rules.zone.now
+        reading.now.share e past)
+        (share_books reading.now.rules.config.now reading.now.rules.zone.now
+        reading.now.share e past) staged.old staged.new) }
+{
+    fit_on();
+    match repeated(reading, statuses) {
+        Some(host) => {
+            let pair = in_order(host, object);
+            stage_owned(alloc, reading, dependencies, statuses, pair.first, staged)?;
+            stage_owned(alloc, reading, dependencies, statuses, pair.second, staged)
+        }
+        None => stage_owned(alloc, reading, dependencies, statuses, object, staged),
+    }
+}
+
+/// Two objects, the one of the lesser number first.
+#[derive(Clone, Copy)]
+struct Pair {
+    first: ObjectId,
+    second: ObjectId,
+}
+
+/// These two objects in order.
+fn in_order(one: ObjectId, other: ObjectId) -> Pair
+    ensures order { result.first.0 ≤ result.second.0 }
+    ensures are { ArePair one other result }
+{
+    if one.0 <= other.0 {
+        Pair {
+            first: one,
+            second: other,
+        }
+    } else {
+        Pair {
+            first: other,
+            second: one,
+        }
+    }
+}
+
+/// Stages what becomes of an object that the event touches, if it is in the share.
+fn stage_owned(
+    alloc: Global,
+    reading: &Reading<'_>,
+    dependencies: &mut Search,
+    statuses: &mut Statuses,
+    object: ObjectId,
+    staged: &mut Staged,
+) -> Result<(), AllocError>
+    requires at { (e : Event) × (past : List Event)
+        × IsAt (values reading.now dependencies.old statuses.old) e past }
+    requires touched { (e : Event) (past : List Event) (settings : Object)
+        → IsAt (values reading.now dependencies.old statuses.old) e past
+        → slice_get reading.now.rules.config.now.objects object.0 ≡ Some settings
+        → is_touched reading.now.rules.config.now reading.now.rules.zone.now e past object.0
+        settings ≡ true }
     requires object { object.0 < length reading.now.rules.config.now.objects }
     ensures dependencies { dependencies.new ≡ dependencies.old }
     ensures statuses { statuses.new ≡ statuses.old }
@@ -213,16 +292,18 @@ fn stage_touched(
     let found = find(reading, dependencies, statuses, object);
     let book = reading.books[usize::from(object.0)];
     count_few();
-    let decision = decide(&reading.rules, object, &found, book);
-    add_messages(
+    attempt_by_due();
+    let judgement = decide(&reading.rules, object, &found, book);
+    let heard = add_messages(
         alloc,
         &reading.rules,
         object,
         reading.context.number,
-        decision.outcome,
+        judgement.outcome,
         &mut staged.receivers,
         &mut staged.entries,
     )?;
+    let decision = conclude(&reading.rules, object, judgement, heard);
     staged.books.push(NewBook {
         object,
         book: decision.book,

@@ -5,9 +5,10 @@ ghost use Rattle.std.specs.Prelude.{length, IfOk, IfSome, slice_index_or, None};
 ghost use Rattle.due_model.specs.declared.state.State.TheVariants.{Pending};
 ghost use Rattle.due_model.specs.Acknowledgements.{ack_after};
 ghost use Rattle.due_model.specs.Readings.{depth_after, depth_changed, flapping_after};
+ghost use Rattle.due_model.specs.Readings.{switched_after};
 ghost use Rattle.decider.specs.Statuses.{hard_by, named_by, no_statuses, status_at, status_by};
 ghost use Rattle.decider.specs.Statuses.{statuses_after, with_ack, with_depth, with_flapping};
-ghost use Rattle.decider.specs.Statuses.{with_state};
+ghost use Rattle.decider.specs.Statuses.{with_state, with_switch};
 
 use due_model::config::ObjectId;
 use due_model::event::{DowntimeChange, EventKind};
@@ -16,7 +17,7 @@ use due_model::state::State;
 use std::alloc::{AllocError, Global};
 use std::marker::Model;
 
-/// The status of each object, by its number. It takes some 12 bytes an object.
+/// The status of each object, by its number. It takes some 14 bytes an object.
 #[derive(Drop)]
 pub(crate) struct Statuses {
     /// The last hard state of each.
@@ -27,6 +28,8 @@ pub(crate) struct Statuses {
     flaps: Vec<bool>,
     /// How the running problem of each is acknowledged: sticky or not; none where it isn't.
     acks: Vec<Option<bool>>,
+    /// The own switch of each; none where nothing switched it.
+    switches: Vec<Option<bool>>,
 }
 
 impl Model for Statuses {
@@ -40,12 +43,14 @@ impl Model for Statuses {
       depths = s.depths.items;
       flaps = s.flaps.items;
       acks = s.acks.items;
+      switches = s.switches.items;
     } };
 
     // There are as many of each.
     ghost invariant = { λ s. (length s.depths.items ≡ length s.states.items)
         × (length s.flaps.items ≡ length s.states.items)
-        × (length s.acks.items ≡ length s.states.items) };
+        × (length s.acks.items ≡ length s.states.items)
+        × (length s.switches.items ≡ length s.states.items) };
 }
 
 impl Statuses {
@@ -58,6 +63,7 @@ impl Statuses {
             depths: vec![in alloc; 0; objects]?,
             flaps: vec![in alloc; false; objects]?,
             acks: vec![in alloc; None; objects]?,
+            switches: vec![in alloc; None; objects]?,
         })
     }
 
@@ -72,6 +78,7 @@ impl Statuses {
             depth: self.depths[number],
             flapping: self.flaps[number],
             acknowledged: self.acks[number],
+            switched: self.switches[number],
         }
     }
 
@@ -124,6 +131,16 @@ impl Statuses {
         self.acks[number] = event.ack_after(object, self.states[number], self.acks[number]);
     }
 
+    /// Says how the notifications of an object are switched after an event.
+    fn follow_switch(&mut self, object: ObjectId, event: EventKind)
+        requires { object.0 < length self.old.states }
+        ensures { self.new ≡ with_switch self.old object.0 (switched_after object.0 event
+            (slice_index_or self.old.switches object.0 None)) }
+    {
+        let number = usize::from(object.0);
+        self.switches[number] = event.switched_after(object, self.switches[number]);
+    }
+
     /// Counts an event.
     pub(crate) fn count(&mut self, event: EventKind)
         requires named { IfSome (named_by event) (λ object. (object.0 < length self.old.states)
@@ -140,6 +157,8 @@ impl Statuses {
             EventKind::Downtime(object, change) => self.change_depth(object, change),
             EventKind::Flapping(object, starts) => self.set_flapping(object, starts),
             EventKind::Ack(object, _) => self.follow_ack(object, event),
+            EventKind::AckRemoved(object) => self.follow_ack(object, event),
+            EventKind::OwnSwitch(object, _) => self.follow_switch(object, event),
         }
     }
 }
@@ -164,6 +183,7 @@ pub(crate) fn status_by(old: ObjectStatus, event: EventKind, object: ObjectId) -
         depth: depth_by(old.depth, event, object),
         flapping: flapping_by(old.flapping, event, object),
         acknowledged: event.ack_after(object, old.state, old.acknowledged),
+        switched: event.switched_after(object, old.switched),
     }
 }
 

@@ -14,9 +14,11 @@ use Rattle.due_model.specs.declared.notice.Notice.{Notice}
 use Rattle.due_model.specs.declared.notice.Outcome.{Outcome}
 use Rattle.due_model.specs.declared.notice.Outcome.TheVariants.{Nothing, Sent, Suppressed}
 use Rattle.due_model.specs.declared.notice.Suppression.{Suppression}
+use Rattle.due_model.specs.declared.options.OptionLetters.{OptionLetters}
 use Rattle.due_model.specs.declared.rules.Attempt.{Attempt}
 use Rattle.due_model.specs.declared.zone.Zone.{Zone}
-use Rattle.due_model.specs.Due.{due, due_at, due_for, notices, receivers, refusal_of, rights_for, sup, suppressed_at, suppressed_for, suppressions}
+use Rattle.due_model.specs.Due.{due, due_at, due_for, notices, refusal_of, sup, suppressed_at, suppressed_for, suppressions}
+use Rattle.due_model.specs.Receivers.{receivers, rights_for}
 use Rattle.due_model.specs.Histories.{hist, outcome}
 use Rattle.due_model.specs.Rules.{contact_failing}
 use Rattle.decider.specs.declared.share.Share.{Share}
@@ -39,9 +41,9 @@ IsOf o l n = (n.object.0 ≡ o) × (n.lane.0 ≡ l)
 
 notices_are_of : (c : Config) (zone : Zone) (o : ℕ) (object : Object) (l event : ℕ) (x : Outcome) → All (IsOf o l) (notices c zone o object l event x)
 notices_are_of c zone o object l event Nothing = All-nil (IsOf o l)
-notices_are_of c zone o object l event (Sent k s number m gap) =
+notices_are_of c zone o object l event (Sent k s number m gap reach) =
     let a : Attempt = record { kind = k; state = s; moment = m } in
-    notices_to_each c zone o object l event number a (IsOf o l) (receivers c zone o object a number) (λ i d within. (refl, refl))
+    notices_to_each c zone o object l event number a reach.told (IsOf o l) (receivers c zone o object a number reach.standing) (λ i d within. (refl, refl))
 notices_are_of c zone o object l event (Suppressed k s number m why) = All-nil (IsOf o l)
 
 gain_is_of : (c : Config) (zone : Zone) (l : ℕ) (e : Event) (past : List Event) (o : ℕ) → All (IsOf o l) (gain c zone l e past o)
@@ -68,8 +70,8 @@ refused o event number a k why = record {
   contact = Some (record { 0 = k });
 }
 
-refusal_is_noted : (c : Config) (zone : Zone) (o : ℕ) (object : Object) (event number : ℕ) (a : Attempt) (k : ℕ) → All (IsNoted o event) (refusal_of c zone o object event number a k)
-refusal_is_noted c zone o object event number a k = by_contact (slice_get c.contacts k)
+refusal_is_noted : (c : Config) (zone : Zone) (o : ℕ) (object : Object) (event number : ℕ) (a : Attempt) (told : Option OptionLetters) (k : ℕ) → All (IsNoted o event) (refusal_of c zone o object event number a told k)
+refusal_is_noted c zone o object event number a told k = by_contact (slice_get c.contacts k)
   where
     by_filter : (fails : Option Filter) → All (IsNoted o event) (elim fails as (λ _. List Suppression) [ None ↦ [] | Some why ↦ refused o event number a k why ∷ [] ])
     by_filter None = All-nil (IsNoted o event)
@@ -78,17 +80,17 @@ refusal_is_noted c zone o object event number a k = by_contact (slice_get c.cont
     by_contact : (found : Option Contact) → All (IsNoted o event)
         (elim found as (λ _. List Suppression) [
           | None ↦ []
-          | Some contact ↦ elim (contact_failing c zone (rights_for object contact) a) as (λ _. List Suppression) [ None ↦ [] | Some why ↦ refused o event number a k why ∷ [] ]
+          | Some contact ↦ elim (contact_failing c zone (rights_for object contact) a told) as (λ _. List Suppression) [ None ↦ [] | Some why ↦ refused o event number a k why ∷ [] ]
         ])
     by_contact None = All-nil (IsNoted o event)
-    by_contact (Some contact) = by_filter (contact_failing c zone (rights_for object contact) a)
+    by_contact (Some contact) = by_filter (contact_failing c zone (rights_for object contact) a told)
 
 suppressions_are_noted : (c : Config) (zone : Zone) (o : ℕ) (object : Object) (event : ℕ) (x : Outcome) → All (IsNoted o event) (suppressions c zone o object event x)
 suppressions_are_noted c zone o object event Nothing = All-nil (IsNoted o event)
-suppressions_are_noted c zone o object event (Sent k s number m gap) =
+suppressions_are_noted c zone o object event (Sent k s number m gap reach) =
     let a : Attempt = record { kind = k; state = s; moment = m } in
-    let ks = receivers c zone o object a number in
-    All-flat_map (IsNoted o event) (refusal_of c zone o object event number a) ks (λ i d within. refusal_is_noted c zone o object event number a (get_or ks i d))
+    let ks = receivers c zone o object a number reach.standing in
+    All-flat_map (IsNoted o event) (refusal_of c zone o object event number a reach.told) ks (λ i d within. refusal_is_noted c zone o object event number a reach.told (get_or ks i d))
 suppressions_are_noted c zone o object event (Suppressed k s number m why) = All-cons (IsNoted o event) _ [] (refl, refl) (All-nil (IsNoted o event))
 
 noted_gain : (c : Config) (zone : Zone) (e : Event) (past : List Event) (o : ℕ) → All (IsNoted o (length past)) (suppressed_gain c zone e past o)

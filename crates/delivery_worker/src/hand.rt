@@ -10,7 +10,7 @@ ghost use Rattle.delivery_worker.specs.Attempts.{TriesFailed, with_taken};
 ghost use Rattle.delivery_worker.specs.Offers.{Settles, TriesInVain};
 
 use crate::laws::attempt;
-use crate::{Attempted, Bell, Gate};
+use crate::{Attempted, Bell, Gate, WorkerSetup};
 use channel::Channel;
 use channel::letter::letter_text;
 use due_model::config::Config;
@@ -120,15 +120,11 @@ pub(crate) fn keep_room<C: Channel>(channel: &mut C) -> Result<(), AllocError>
 /// channel and the record have it as the last that was taken. An error says why the lane is to close; then the notice is in
 /// hand, and only where memory ran out before it was taken up the record is as before.
 pub(crate) fn serve_notice<C: Channel, B: Bell, G: Gate, R: Wait + Clock>(
-    rt: &R,
-    alloc: Global,
-    config: &Config,
+    setup: WorkerSetup<'_, G, R>,
     channel: &mut C,
     lane: &mut LaneRecord,
     notice: Notice,
-    tries: u8,
     bell: &mut B,
-    gate: &G,
 ) -> Result<(), Why>
     requires idle { lane.old.hand ≡ None }
     requires serving { lane.old.why ≡ None }
@@ -139,15 +135,15 @@ pub(crate) fn serve_notice<C: Channel, B: Bell, G: Gate, R: Wait + Clock>(
     ensures hand { IfErr result (λ why. KeepsInHand why notice lane.old lane.new) }
     ensures bell { HasRung (IsErrOf result Why.Asked) (B.count bell.old) (B.count bell.new) }
     ensures failed { IsErrOf result Why.Failed
-        → TriesFailed tries (C.account channel.old).limit (length (letter_of config.now notice))
+        → TriesFailed setup.entry.tries (C.account channel.old).limit (length (letter_of setup.entry.config.now notice))
         (C.account channel.old).failures (C.account channel.new).failures }
     ensures counted { (C.account channel.old).failures ≤ (C.account channel.new).failures }
     ensures limit { (C.account channel.new).limit ≡ (C.account channel.old).limit }
     ensures number { (C.account channel.new).number ≡ (C.account channel.old).number }
     ensures offered { OnOk result
-        (Settles C.offered tries config.now (notice ∷ []) channel.old channel.new) }
+        (Settles C.offered setup.entry.tries setup.entry.config.now (notice ∷ []) channel.old channel.new) }
     ensures offered_in_vain { IfErr result (λ why.
-        TriesInVain C.offered tries config.now lane.new.hand (why ≡ Why.Failed)
+        TriesInVain C.offered setup.entry.tries setup.entry.config.now lane.new.hand (why ≡ Why.Failed)
         channel.old channel.new) }
     ensures not_over { ¬ IsErrOf result Why.FeedOver }
     ensures has_channel { ¬ IsErrOf result Why.NoChannel }
@@ -155,10 +151,18 @@ pub(crate) fn serve_notice<C: Channel, B: Bell, G: Gate, R: Wait + Clock>(
     if lane.take_up(notice).is_err() {
         return Err(Why::NoMemory);
     }
-    if !wait_for_gate(rt, &notice, bell, gate) {
+    if !wait_for_gate(setup.rt, &notice, bell, setup.gate) {
         return Err(Why::Asked);
     }
-    deliver_hand(alloc, config, channel, lane, notice, tries, bell)
+    deliver_hand(
+        setup.alloc,
+        setup.config,
+        channel,
+        lane,
+        notice,
+        setup.tries,
+        bell,
+    )
 }
 
 /// Tries the notice that is in hand, if one is.

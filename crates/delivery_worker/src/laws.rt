@@ -14,7 +14,7 @@ ghost use Rattle.due_model.specs.Items.{notices};
 
 use crate::hand::{keep_room, serve_notice, try_hand};
 use crate::queue::{all_ended, pick_item};
-use crate::{Attempted, Bell, Gate};
+use crate::{Attempted, Bell, Gate, WorkerSetup};
 use channel::letter::Letter;
 use channel::{Channel, Fault};
 use channel_queue::{LaneQueue, Pass};
@@ -143,6 +143,14 @@ pub fn tend<C: Channel, B: Bell, G: Gate, R: Wait + Clock>(
     if let Err(why) = try_hand(alloc, config, channel, lane, tries, bell) {
         return (pass, why);
     }
+    let setup = WorkerSetup {
+        rt,
+        alloc,
+        config,
+        tries,
+        queue,
+        gate,
+    };
     let mut pass = pass;
     let mut pause = Pause::new();
     for _ in rt.forever() {
@@ -162,9 +170,7 @@ pub fn tend<C: Channel, B: Bell, G: Gate, R: Wait + Clock>(
             Some(Item::End(_)) => pause.reset(),
             Some(Item::Notice(_, notice)) => {
                 pause.reset();
-                if let Err(why) = serve_notice(
-                    rt, alloc, config, channel, lane, notice, tries, bell, gate,
-                ) {
+                if let Err(why) = serve_notice(setup, channel, lane, notice, bell) {
                     return (pass, why);
                 }
             }

@@ -10,12 +10,14 @@ mod hand;
 pub mod laws;
 mod patient;
 mod queue;
+mod setup;
 mod worker;
 
 pub use closers::{Closers, LaneBell};
 use due_model::config::LaneId;
 use due_model::notice::Notice;
 pub use patient::PatientBell;
+pub use setup::WorkerSetup;
 use std::time::Duration;
 use undelivered::Why;
 pub use worker::{Served, serve, tend_next};

@@ -15,7 +15,7 @@ ghost use Rattle.due_model.specs.Items.{notices};
 
 use crate::laws::tend;
 use crate::queue::{all_ended, pick_item};
-use crate::{Bell, Gate};
+use crate::{Bell, Gate, WorkerSetup};
 use channel::Channel;
 use channel_queue::{LaneQueue, Pass};
 use due_model::config::Config;
@@ -129,33 +129,28 @@ fn end_record(lane: &mut LaneRecord, first: bool) -> Result<(), AllocError>
 /// Serves a lane by its first or its next channel, and closes that. Before the next one serves, the record of the one before ends as it
 /// stands.
 pub fn tend_next<C: Channel, B: Bell, G: Gate, R: Wait + Clock>(
-    rt: &R,
-    alloc: Global,
-    config: &Config,
+    setup: WorkerSetup<'_, G, R>,
     channel: &mut C,
     first: bool,
     lane: &mut LaneRecord,
-    tries: u8,
-    queue: &LaneQueue,
     pass: Pass,
     ends: &mut [bool; 8],
     bell: &mut B,
-    gate: &G,
 ) -> (Pass, Why)
-    requires deciders { queue.now.deciders ≤ 8 }
-    requires worker { IsWorker queue.now (picked_of pass) (joined_of pass) pass }
+    requires deciders { setup.queue.now.deciders ≤ 8 }
+    requires worker { IsWorker setup.queue.now (picked_of pass) (joined_of pass) pass }
     requires ends { AreEnds (picked_of pass) ends.old }
     requires serving { IsServing lane.old }
     requires order { held_in lane.old ≡ notices (picked_of pass) }
     requires hand { first ≡ false → IsSome lane.old.hand }
-    requires tries { 0 < tries }
-    ensures worker { IsWorker queue.now (picked_of result.0) (joined_of pass) result.0 }
+    requires tries { 0 < setup.tries }
+    ensures worker { IsWorker setup.entry.queue.now (picked_of result.0) (joined_of pass) result.0 }
     ensures ends { AreEnds (picked_of result.0) ends.new }
     ensures serving { IsServing lane.new }
     ensures order { result.1 ≢ Why.NoMemory → held_in lane.new ≡ notices (picked_of result.0) }
     ensures front { IsPrefix (held_in lane.new) (notices (picked_of result.0)) }
     ensures over { result.1 ≡ Why.FeedOver
-        → (lane.new.hand ≡ None) × AllEnded queue.now.deciders (picked_of result.0) }
+        → (lane.new.hand ≡ None) × AllEnded setup.entry.queue.now.deciders (picked_of result.0) }
     ensures asked { (result.1 ≡ Why.Asked) ↔ (B.count bell.old < B.count bell.new) }
     ensures bell { B.count bell.new ≤ B.count bell.old + 1 }
     ensures unasked { result.1 ≢ Why.Asked → B.count bell.new ≡ B.count bell.old }
@@ -166,12 +161,12 @@ pub fn tend_next<C: Channel, B: Bell, G: Gate, R: Wait + Clock>(
         → HasOwnRecord first result.1 lane.old lane.new
         (C.account channel.old).taken (C.account channel.new).taken
         (C.account channel.old).failures (C.account channel.new).failures
-        (TakesOffers C.offered tries config.now lane.new.taken lane.new.hand (result.1 ≡ Why.Failed)
+        (TakesOffers C.offered setup.entry.tries setup.entry.config.now lane.new.taken lane.new.hand (result.1 ≡ Why.Failed)
         channel.old channel.new)
         (C.offered channel.old [] channel.new) }
     // A channel fails only once a letter has failed as often as it may be tried.
     ensures tried { result.1 ≡ Why.Failed
-        → HasFailed tries config.now (C.account channel.old).limit (C.account channel.old).failures
+        → HasFailed setup.entry.tries setup.entry.config.now (C.account channel.old).limit (C.account channel.old).failures
         (C.account channel.new).failures lane.new.hand }
     ensures number { (C.account channel.new).number ≡ (C.account channel.old).number }
     ensures limit { (C.account channel.new).limit ≡ (C.account channel.old).limit }
@@ -186,7 +181,17 @@ pub fn tend_next<C: Channel, B: Bell, G: Gate, R: Wait + Clock>(
         return (pass, Why::NoMemory);
     }
     let served = tend(
-        rt, alloc, config, channel, lane, tries, queue, pass, ends, bell, gate,
+        setup.rt,
+        setup.alloc,
+        setup.config,
+        channel,
+        lane,
+        setup.tries,
+        setup.queue,
+        pass,
+        ends,
+        bell,
+        setup.gate,
     );
     channel.close();
     served
@@ -195,34 +200,29 @@ pub fn tend_next<C: Channel, B: Bell, G: Gate, R: Wait + Clock>(
 /// Serves a lane by its channels, one after another, up to the close, which it leaves to the caller. The next serves where the one
 /// before has failed.
 fn tend_channels<C: Channel, B: Bell, G: Gate, R: Wait + Clock>(
-    rt: &R,
-    alloc: Global,
-    config: &Config,
+    setup: WorkerSetup<'_, G, R>,
     channels: &mut Vec<C>,
     lane: &mut LaneRecord,
-    tries: u8,
-    queue: &LaneQueue,
     pass: Pass,
     ends: &mut [bool; 8],
     bell: &mut B,
-    gate: &G,
 ) -> (Pass, Why)
-    requires deciders { queue.now.deciders ≤ 8 }
-    requires worker { IsWorker queue.now (picked_of pass) (joined_of pass) pass }
+    requires deciders { setup.queue.now.deciders ≤ 8 }
+    requires worker { IsWorker setup.queue.now (picked_of pass) (joined_of pass) pass }
     requires ends { AreEnds (picked_of pass) ends.old }
     requires serving { IsServing lane.old }
     requires order { held_in lane.old ≡ notices (picked_of pass) }
     requires idle { lane.old.hand ≡ None }
     requires first { lane.old.ended ≡ [] }
     requires fresh { lane.old.taken ≡ [] }
-    requires tries { 0 < tries }
-    ensures worker { IsWorker queue.now (picked_of result.0) (joined_of pass) result.0 }
+    requires tries { 0 < setup.tries }
+    ensures worker { IsWorker setup.entry.queue.now (picked_of result.0) (joined_of pass) result.0 }
     ensures ends { AreEnds (picked_of result.0) ends.new }
     ensures serving { IsServing lane.new }
     ensures order { result.1 ≢ Why.NoMemory → held_in lane.new ≡ notices (picked_of result.0) }
     ensures front { IsPrefix (held_in lane.new) (notices (picked_of result.0)) }
     ensures over { result.1 ≡ Why.FeedOver
-        → (lane.new.hand ≡ None) × AllEnded queue.now.deciders (picked_of result.0) }
+        → (lane.new.hand ≡ None) × AllEnded setup.entry.queue.now.deciders (picked_of result.0) }
     ensures asked { (result.1 ≡ Why.Asked) ↔ (B.count bell.old < B.count bell.new) }
     ensures bell { B.count bell.new ≤ B.count bell.old + 1 }
     ensures unasked { result.1 ≢ Why.Asked → B.count bell.new ≡ B.count bell.old }
@@ -232,25 +232,20 @@ fn tend_channels<C: Channel, B: Bell, G: Gate, R: Wait + Clock>(
     ensures each_failed { result.1 ≡ Why.Failed → length lane.new.ended + 1 ≡ length channels.old.items }
     ensures records { channels.old.items ≢ [] → length lane.new.ended < length channels.old.items }
     // Each channel is where it was, and has taken what its record says.
-    ensures channels { HaveServed C.account C.offered tries config.now (records_in lane.new) (held_in lane.new)
+    ensures channels { HaveServed C.account C.offered setup.entry.tries setup.entry.config.now (records_in lane.new) (held_in lane.new)
         (result.1 ≡ Why.Failed) channels.old.items channels.new.items }
 {
     let mut pass = pass;
     let mut why = Why::NoChannel;
     for place in 0..channels.len() {
         let (next, close) = tend_next(
-            rt,
-            alloc,
-            config,
+            setup,
             &mut channels[place],
             place == 0,
             lane,
-            tries,
-            queue,
             pass,
             ends,
             bell,
-            gate,
         );
         pass = next;
         why = close;
@@ -318,19 +313,15 @@ pub fn serve<C: Channel, B: Bell, G: Gate, R: Wait + Clock>(
     let mut held = LaneRecord::new(alloc);
     let mut ends = [false; 8];
     let mut channels = channels;
-    let (pass, why) = tend_channels(
+    let setup = WorkerSetup {
         rt,
         alloc,
         config,
-        &mut channels,
-        &mut held,
         tries,
         queue,
-        pass,
-        &mut ends,
-        bell,
         gate,
-    );
+    };
+    let (pass, why) = tend_channels(setup, &mut channels, &mut held, pass, &mut ends, bell);
     held.close(why);
     tell_close(why, &held, gate);
     if why == Why::FeedOver {

@@ -17,7 +17,7 @@ use Rattle.due_model.specs.declared.state.State.{State}
 use Rattle.due_model.specs.declared.zone.Zone.{Zone}
 use Rattle.due_model.specs.Accepted.{DependencyFits, IsAccepted}
 use Rattle.due_model.specs.ByObject.{entries_of}
-use Rattle.due_model.specs.Dependencies.{dependency_fails, entry_fails, has_state}
+use Rattle.due_model.specs.Dependencies.{dependency_fails, entry_fails, fails_at}
 use Rattle.due_model.specs.Periods.{in_period}
 use Rattle.lemmas.proofs.Dependencies.{fails_at_any_depth}
 use Rattle.dependency.specs.Entry.{fails_by, masters_of}
@@ -126,8 +126,8 @@ is_there c p entries accepted are some = ⊎_elim
     (cases_lt p (length c.objects))
 
 module _ (c : Config) (zone : Zone) (states : ℕ → State) (t : ℕ) where
-  abbrev fails_at : ℕ → ℕ → Bool
-  fails_at depth = entry_fails depth c zone states t
+  abbrev fails_in : ℕ → ℕ → Bool
+  fails_in depth = entry_fails depth c zone states t
 
   masters-cons : (f : ℕ → Bool) (e : Dependency) (es : List Dependency)
       → list_any f (masters_of c zone t (e ∷ es)) ≡ cond (in_period c zone e.period t && e.inherits) (f e.master.0 || list_any f (masters_of c zone t es)) (list_any f (masters_of c zone t es))
@@ -136,40 +136,40 @@ module _ (c : Config) (zone : Zone) (states : ℕ → State) (t : ℕ) where
       ≡ cond b (f e.master.0 || list_any f (masters_of c zone t es)) (list_any f (masters_of c zone t es))) [ true ↦ refl | false ↦ refl ]
 
   any_parted : (f : ℕ → Bool) (es : List Dependency)
-      → list_any (λ e. in_period c zone e.period t && (has_state e.states (states e.master.0) || e.inherits && f e.master.0)) es
+      → list_any (λ e. in_period c zone e.period t && (fails_at c.choices.dep_pending e.states (states e.master.0) || e.inherits && f e.master.0)) es
       ≡ (list_any (fails_by c zone states t) es || list_any f (masters_of c zone t es))
   any_parted f [] = refl
   any_parted f (e ∷ es) =
-      ap (λ b. in_period c zone e.period t && (has_state e.states (states e.master.0) || e.inherits && f e.master.0) || b) (any_parted f es)
-      ∙ parted (in_period c zone e.period t) (has_state e.states (states e.master.0)) e.inherits (f e.master.0) (list_any (fails_by c zone states t) es) (list_any f (masters_of c zone t es))
+      ap (λ b. in_period c zone e.period t && (fails_at c.choices.dep_pending e.states (states e.master.0) || e.inherits && f e.master.0) || b) (any_parted f es)
+      ∙ parted (in_period c zone e.period t) (fails_at c.choices.dep_pending e.states (states e.master.0)) e.inherits (f e.master.0) (list_any (fails_by c zone states t) es) (list_any f (masters_of c zone t es))
       ∙ ap (λ b. fails_by c zone states t e || list_any (fails_by c zone states t) es || b) (sym (masters-cons f e es))
 
   abbrev own : ℕ → List Dependency
   own p = entries_of c.dependencies p
 
   -- one entry, and then a chain that is one shorter
-  fails-step : (depth p : ℕ) → fails_at (suc depth) p ≡ (list_any (fails_by c zone states t) (own p) || list_any (fails_at depth) (masters_of c zone t (own p)))
+  fails-step : (depth p : ℕ) → fails_in (suc depth) p ≡ (list_any (fails_by c zone states t) (own p) || list_any (fails_in depth) (masters_of c zone t (own p)))
   fails-step depth p =
-      any_of_filter (λ (e : Dependency). e.dependent.0 == p) (λ e. in_period c zone e.period t) (λ e. has_state e.states (states e.master.0) || e.inherits && fails_at depth e.master.0) c.dependencies
-      ∙ any_parted (fails_at depth) (entries_of c.dependencies p)
+      any_of_filter (λ (e : Dependency). e.dependent.0 == p) (λ e. in_period c zone e.period t) (λ e. fails_at c.choices.dep_pending e.states (states e.master.0) || e.inherits && fails_in depth e.master.0) c.dependencies
+      ∙ any_parted (fails_in depth) (entries_of c.dependencies p)
 
   Fails-one : (p : ℕ) → list_any (fails_by c zone states t) (own p) ≡ true → Fails c zone states t p
-  Fails-one p is = (1, fails-step 0 p ∙ or_left (list_any (fails_by c zone states t) (own p)) (list_any (fails_at 0) (masters_of c zone t (own p))) is)
+  Fails-one p is = (1, fails-step 0 p ∙ or_left (list_any (fails_by c zone states t) (own p)) (list_any (fails_in 0) (masters_of c zone t (own p))) is)
 
   Fails-on : (p q : ℕ) → Contains (masters_of c zone t (own p)) q → Fails c zone states t q → Fails c zone states t p
   Fails-on p q at (depth, is) =
       let masters = masters_of c zone t (own p) in
-      let one : list_any (fails_at depth) masters ≡ true = list_any_at (fails_at depth) masters at.0 q at.1 (ap (fails_at depth) at.2 ∙ is) in
-      (suc depth, fails-step depth p ∙ or_right (list_any (fails_by c zone states t) (own p)) (list_any (fails_at depth) masters) one)
+      let one : list_any (fails_in depth) masters ≡ true = list_any_at (fails_in depth) masters at.0 q at.1 (ap (fails_in depth) at.2 ∙ is) in
+      (suc depth, fails-step depth p ∙ or_right (list_any (fails_by c zone states t) (own p)) (list_any (fails_in depth) masters) one)
 
   -- an object that isn't there has no dependencies
   pub fails-alone : (p : ℕ) → own p ≡ [] → dependency_fails c zone states t p ≡ false
   fails-alone p none = at_depth (length c.dependencies)
     where
-      at_depth : (depth : ℕ) → fails_at depth p ≡ false
+      at_depth : (depth : ℕ) → fails_in depth p ≡ false
       at_depth zero = refl
       at_depth (suc depth) = fails-step depth p
-          ∙ ap (λ es. list_any (fails_by c zone states t) es || list_any (fails_at depth) (masters_of c zone t es)) none
+          ∙ ap (λ es. list_any (fails_by c zone states t) es || list_any (fails_in depth) (masters_of c zone t es)) none
 
   pub IsWalk-start : (from : ℕ) (old nodes found : List ℕ) → Gains old nodes found → old ≡ [] → nodes ≡ from ∷ [] → IsWalk c zone states t from 0 found
   IsWalk-start from old nodes found gained none one =
@@ -226,13 +226,13 @@ module _ (c : Config) (zone : Zone) (states : ℕ → State) (t : ℕ) where
   pub IsWalk-end : (from turn : ℕ) (found : List ℕ) → IsWalk c zone states t from turn found → length found ≤ turn → dependency_fails c zone states t from ≡ false
   IsWalk-end from turn found is over = at_depth (length c.dependencies) from is.start
     where
-      at_depth : (depth p : ℕ) → Contains found p → fails_at depth p ≡ false
+      at_depth : (depth p : ℕ) → Contains found p → fails_in depth p ≡ false
       at_depth zero p at = refl
       at_depth (suc depth) p at =
           let here : get_or found at.0 0 ≡ p = get_or_default found at.0 0 p at.1 ∙ at.2 in
           let before : at.0 < turn = omega (arith, at.1) in
           let none : list_any (fails_by c zone states t) (own p) ≡ false = subst (λ (x : ℕ). list_any (fails_by c zone states t) (own x) ≡ false) here (is.passed at.0 before) in
           let masters = masters_of c zone t (own p) in
-          let more : list_any (fails_at depth) masters ≡ false = list_any_none (fails_at depth) masters (λ k d within. at_depth depth (get_or masters k d)
+          let more : list_any (fails_in depth) masters ≡ false = list_any_none (fails_in depth) masters (λ k d within. at_depth depth (get_or masters k d)
           (is.seen at.0 (get_or masters k d) before (subst (λ (x : ℕ). Contains (masters_of c zone t (own x)) (get_or masters k d)) (sym here) (Contains-get_or masters k d within)))) in
-          fails-step depth p ∙ ap (λ b. b || list_any (fails_at depth) masters) none ∙ more
+          fails-step depth p ∙ ap (λ b. b || list_any (fails_in depth) masters) none ∙ more

@@ -5,7 +5,7 @@ ghost use Rattle.std.specs.List.{list_any};
 ghost use Rattle.graph.specs.Reach.{Gains};
 ghost use Rattle.due_model.specs.Accepted.{IsAccepted};
 ghost use Rattle.due_model.specs.ByObject.{entries_of};
-ghost use Rattle.due_model.specs.Dependencies.{dependency_fails, has_state};
+ghost use Rattle.due_model.specs.Dependencies.{dependency_fails, fails_at};
 ghost use Rattle.due_model.specs.Limits.{last_moment};
 ghost use Rattle.dependency.specs.Entry.{fails_by, masters_of, state_of};
 ghost use Rattle.time_period.specs.Days.{AreCompiled};
@@ -107,25 +107,30 @@ fn follow(
         (entries_of config.now.dependencies object.0) }
 {
     for entry in config.dependencies.of(object) {
-        if is_in_period(periods, entry.period, zone, t) && look(reach, entry, states) {
+        if is_in_period(periods, entry.period, zone, t)
+            && look(reach, entry, states, config.choices.dep_pending)
+        {
             return true;
         }
     }
     false
 }
 
-/// Finds the master of a valid entry, if it leads on. Whether the entry fails by the master's own state.
-fn look(reach: &mut Reach, entry: &Dependency, states: &[State]) -> bool
+/// Finds the master of a valid entry, if it leads on. Whether the entry fails by the master's own state; `daemons` is whether
+/// a pending master counts as one that is UP or OK.
+fn look(reach: &mut Reach, entry: &Dependency, states: &[State], daemons: bool) -> bool
     requires within { entry.now.master.0 < reach.old.nodes }
     requires states { length states.now ≡ reach.old.nodes }
     ensures nodes { reach.new.nodes ≡ reach.old.nodes }
     ensures gains { Gains reach.old.found
         (cond entry.now.inherits (entry.now.master.0 ∷ []) []) reach.new.found }
     ensures fails { result
-        ≡ has_state entry.now.states (state_of states.now entry.now.master.0) }
+        ≡ fails_at daemons entry.now.states (state_of states.now entry.now.master.0) }
 {
     if entry.inherits {
         reach.find(u32::from(entry.master.0));
     }
-    entry.states.contains(states[usize::from(entry.master.0)])
+    entry
+        .states
+        .fails_at(daemons, states[usize::from(entry.master.0)])
 }

@@ -7,9 +7,9 @@ use Rattle.std.proofs.lemmas.List.Elements.{All-nil, All-cons, All-head, All-tai
 use Rattle.std.proofs.lemmas.Option.{same_Some}
 use Rattle.due_model.specs.declared.event.Event.{Event}
 use Rattle.due_model.specs.declared.event.EventKind.{EventKind}
-use Rattle.due_model.specs.declared.event.EventKind.TheVariants.{Clock, Program, Hard, Downtime, Flapping, Ack}
+use Rattle.due_model.specs.declared.event.EventKind.TheVariants.{Clock, Program, Hard, Downtime, Flapping, Ack, AckRemoved, OwnSwitch}
 use Rattle.due_model.specs.declared.state.State.{State}
-use Rattle.due_model.specs.Acknowledgements.{acked, acknowledges, is_ok_of, last_ack, outlasts, since_ack}
+use Rattle.due_model.specs.Acknowledgements.{acked, acknowledges, ends_ack, last_ack, outlasts, since_ack}
 use Rattle.due_model.specs.Readings.{hard, is_problem_state}
 use Rattle.due_model.specs.Rules.{same_state}
 use Rattle.lemmas.proofs.Acknowledgements.{same_state_is, same_state_self}
@@ -28,13 +28,15 @@ acknowledges_by o (Program on) s = none_if (is_problem_state s)
 acknowledges_by o (Hard p t) s = none_if (is_problem_state s)
 acknowledges_by o (Downtime p change) s = none_if (is_problem_state s)
 acknowledges_by o (Flapping p starts) s = none_if (is_problem_state s)
-acknowledges_by o (Ack p sticky) s = by_tests (p.0 == o) (is_problem_state s)
+acknowledges_by o (Ack p ack) s = by_tests (p.0 == o) (is_problem_state s)
   where
-    by_tests : (mine problem : Bool) → (if mine && problem then Some sticky else None) ≡ (if problem then (if mine then Some sticky else None) else None)
+    by_tests : (mine problem : Bool) → (if mine && problem then Some ack.sticky else None) ≡ (if problem then (if mine then Some ack.sticky else None) else None)
     by_tests true true = refl
     by_tests true false = refl
     by_tests false true = refl
     by_tests false false = refl
+acknowledges_by o (AckRemoved p) s = none_if (is_problem_state s)
+acknowledges_by o (OwnSwitch p on) s = none_if (is_problem_state s)
 
 -- in the order of the feed
 at_past : (o : ℕ) (front : List Event) (e : Event) (past : List Event) → reverse front ≡ past → ack_at o front e ≡ acknowledges o e.kind (hard o (e ∷ past))
@@ -45,7 +47,7 @@ at_past o front e past is =
 -- event x, after this past, leaves an acknowledgement in state s as it is
 record Outlasted (o : ℕ) (sticky : Bool) (s : State) (x : Event) (past : List Event) : Type 0 where
   none : acknowledges o x.kind (hard o (x ∷ past)) ≡ None
-  not_ok : is_ok_of o x.kind ≡ false
+  not_ended : ends_ack o x.kind ≡ false
   same : (sticky || same_state (hard o (x ∷ past)) s) ≡ true
 
 -- so does each of these, the newest first, after that past
@@ -68,9 +70,9 @@ along_from o sticky s from [] h = tt
 along_from o sticky s from (x ∷ later) h =
     (h [] x later refl, along_from o sticky s from later (λ newer y older is. h (x ∷ newer) y older (ap (λ xs. x ∷ xs) is)))
 
-along_not_ok : (o : ℕ) (sticky : Bool) (s : State) (from later : List Event) → Along o sticky s from later → All (λ e. is_ok_of o e.kind ≡ false) later
-along_not_ok o sticky s from [] h = All-nil (λ (e : Event). is_ok_of o e.kind ≡ false)
-along_not_ok o sticky s from (x ∷ later) h = All-cons (λ (e : Event). is_ok_of o e.kind ≡ false) x later h.0.not_ok (along_not_ok o sticky s from later h.1)
+along_not_ended : (o : ℕ) (sticky : Bool) (s : State) (from later : List Event) → Along o sticky s from later → All (λ e. ends_ack o e.kind ≡ false) later
+along_not_ended o sticky s from [] h = All-nil (λ (e : Event). ends_ack o e.kind ≡ false)
+along_not_ended o sticky s from (x ∷ later) h = All-cons (λ (e : Event). ends_ack o e.kind ≡ false) x later h.0.not_ended (along_not_ended o sticky s from later h.1)
 
 or_second : (a b : Bool) → (a || b) ≡ true → a ≡ false → b ≡ true
 or_second true b h is = cc
@@ -104,9 +106,9 @@ acked_since o (e ∷ past) sticky s is all = by_ack (acknowledges o e.kind (hard
         → HasAck o (e ∷ past) sticky s
     by_ack None none before is all =
         let parts = and_parts (outlasts o sticky s (e ∷ past)) (list_all (outlasts o sticky s) (since_ack o past)) all in
-        let now = and_parts (not (is_ok_of o e.kind)) (sticky || same_state (hard o (e ∷ past)) s) parts.0 in
+        let now = and_parts (not (ends_ack o e.kind)) (sticky || same_state (hard o (e ∷ past)) s) parts.0 in
         let so_far = before is parts.1 in
-        let here : Outlasted o sticky s e past = record { none = none; not_ok = false_from_not (is_ok_of o e.kind) now.0; same = now.1 } in (
+        let here : Outlasted o sticky s e past = record { none = none; not_ended = false_from_not (ends_ack o e.kind) now.0; same = now.1 } in (
           e ∷ so_far.0,
           so_far.1,
           so_far.2,
@@ -149,7 +151,7 @@ last_since o a sticky s earlier (x ∷ later) acks at h =
           ∙ so_far.0,
       ap (λ (new : Option Bool). list_all (outlasts o sticky s) (elim new as (λ _. List (List Event)) [ None ↦ (x ∷ past) ∷ since_ack o past | Some st ↦ [] ])) h.0.none
           ∙ and_from (outlasts o sticky s (x ∷ past)) (list_all (outlasts o sticky s) (since_ack o past))
-          (and_from (not (is_ok_of o x.kind)) (sticky || same_state (hard o (x ∷ past)) s) (ap not h.0.not_ok) h.0.same) so_far.1,
+          (and_from (not (ends_ack o x.kind)) (sticky || same_state (hard o (x ∷ past)) s) (ap not h.0.not_ended) h.0.same) so_far.1,
     )
 
 abbrev acked_by : ℕ → List Event → Option (Bool × State) → Bool
@@ -194,7 +196,7 @@ to_feed o feed h =
             let split : later ≡ reverse rest ++ x ∷ reverse front = sym (reverse-reverse later) ∙ ap reverse is ∙ reverse_split front x rest in
             let out = along_at o sticky s (a ∷ earlier) (reverse rest) x (reverse front) (subst (Along o sticky s (a ∷ earlier)) split since.along) in
             at_past o (reverse earlier ++ a ∷ front) x (reverse front ++ a ∷ earlier) (whole front) ∙ out.none;
-        not_ok = All-reverse (λ (e : Event). is_ok_of o e.kind ≡ false) later (along_not_ok o sticky s (a ∷ earlier) later since.along);
+        not_ended = All-reverse (λ (e : Event). ends_ack o e.kind ≡ false) later (along_not_ended o sticky s (a ∷ earlier) later since.along);
         same_state = λ loose front rest is.
             let split : later ≡ reverse rest ++ reverse front = sym (reverse-reverse later) ∙ ap reverse is ∙ reverse-append front rest in
             let along = along_rest o sticky s (a ∷ earlier) (reverse rest) (reverse front) (subst (Along o sticky s (a ∷ earlier)) split since.along) in
@@ -221,8 +223,8 @@ from_feed o feed (earlier, a, sticky, later, is, by) =
             in
             record {
               none = sym (at_past o (earlier ++ a ∷ reverse older) x (older ++ a ∷ reverse earlier) past) ∙ by.is_last (reverse older) x (reverse newer) ordered;
-              not_ok = all_at (λ (e : Event). is_ok_of o e.kind ≡ false) (reverse older) x (reverse newer)
-                  (All-same (λ (e : Event). is_ok_of o e.kind ≡ false) (reverse older ++ x ∷ reverse newer) later (sym ordered) by.not_ok);
+              not_ended = all_at (λ (e : Event). ends_ack o e.kind ≡ false) (reverse older) x (reverse newer)
+                  (All-same (λ (e : Event). ends_ack o e.kind ≡ false) (reverse older ++ x ∷ reverse newer) later (sym ordered) by.not_ended);
               same = by_sticky sticky refl x older newer ordered;
             });
       },

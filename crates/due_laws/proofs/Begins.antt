@@ -5,7 +5,7 @@ use Rattle.std.proofs.lemmas.List.{reverse-append, reverse-reverse, length-rever
 use Rattle.std.proofs.lemmas.List.Elements.{All-nil, All-cons, All-head, All-tail, All-append, All-take}
 use Rattle.due_model.specs.declared.event.Event.{Event}
 use Rattle.due_model.specs.declared.event.EventKind.{EventKind}
-use Rattle.due_model.specs.declared.event.EventKind.TheVariants.{Clock, Program, Hard, Downtime, Flapping, Ack}
+use Rattle.due_model.specs.declared.event.EventKind.TheVariants.{Clock, Program, Hard, Downtime, Flapping, Ack, AckRemoved, OwnSwitch}
 use Rattle.due_model.specs.declared.notice.Outcome.{Outcome}
 use Rattle.due_model.specs.declared.state.State.{State}
 use Rattle.due_model.specs.declared.state.State.TheVariants as state
@@ -52,7 +52,9 @@ after_problem o (Hard p s) old h =
     ap is_problem_state (cond-true (p.0 == o) s old parts.0) ∙ parts.1
 after_problem o (Downtime p change) old h = cc
 after_problem o (Flapping p starts) old h = cc
-after_problem o (Ack p sticky) old h = cc
+after_problem o (Ack p ack) old h = cc
+after_problem o (AckRemoved p) old h = cc
+after_problem o (OwnSwitch p on) old h = cc
 
 -- what is neither OK nor pending leaves a problem
 keeps_problem : (o : ℕ) (k : EventKind) (old : State) → is_ok_of o k ≡ false → is_pending_event k ≡ false → is_problem_state old ≡ true → is_problem_state (hard_after o k old) ≡ true
@@ -63,7 +65,9 @@ keeps_problem o (Hard p s) old ok pending was =
     (λ same. problem_state s (and_second (p.0 == o) (is_ok_state s) ok same) pending) (λ _. was)
 keeps_problem o (Downtime p change) old ok pending was = was
 keeps_problem o (Flapping p starts) old ok pending was = was
-keeps_problem o (Ack p sticky) old ok pending was = was
+keeps_problem o (Ack p ack) old ok pending was = was
+keeps_problem o (AckRemoved p) old ok pending was = was
+keeps_problem o (OwnSwitch p on) old ok pending was = was
 
 not_ok_of : (o : ℕ) (k : EventKind) → is_problem_of o k ≡ true → is_ok_of o k ≡ false
 not_ok_of o Clock h = refl
@@ -71,7 +75,9 @@ not_ok_of o (Program on) h = refl
 not_ok_of o (Hard p s) h = and_right (p.0 == o) (is_ok_state s) (not_ok_state s (and_parts (p.0 == o) (is_problem_state s) h).1)
 not_ok_of o (Downtime p change) h = refl
 not_ok_of o (Flapping p starts) h = refl
-not_ok_of o (Ack p sticky) h = refl
+not_ok_of o (Ack p ack) h = refl
+not_ok_of o (AckRemoved p) h = refl
+not_ok_of o (OwnSwitch p on) h = refl
 
 -- a problem state comes of a problem event, or was there before
 problem_before : (o : ℕ) (k : EventKind) (old : State) → is_problem_state (hard_after o k old) ≡ true → (is_problem_of o k ≡ true) ⊎ ((is_problem_state old ≡ true) × (is_ok_of o k ≡ false))
@@ -83,7 +89,9 @@ problem_before o (Hard p s) old h =
     (cases_Bool (p.0 == o))
 problem_before o (Downtime p change) old h = inr (h, refl)
 problem_before o (Flapping p starts) old h = inr (h, refl)
-problem_before o (Ack p sticky) old h = inr (h, refl)
+problem_before o (Ack p ack) old h = inr (h, refl)
+problem_before o (AckRemoved p) old h = inr (h, refl)
+problem_before o (OwnSwitch p on) old h = inr (h, refl)
 
 -- a problem runs while no event is OK
 problem_runs : (o : ℕ) (b : Event) (earlier later : List Event) → is_problem_of o b.kind ≡ true → NoneOk o later → NonePending later → is_problem_state (hard o (later ++ b ∷ earlier)) ≡ true

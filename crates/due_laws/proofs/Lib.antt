@@ -3,6 +3,7 @@ pub mod Answered
 pub mod Begins
 pub mod DependencyLaws
 pub mod EachNotice
+pub mod Unheard
 pub mod Growth
 pub mod LastEvent
 pub mod NextMoments
@@ -12,3 +13,4 @@ pub mod Problems
 pub mod ReadingLaws
 pub mod ShortChains
 pub mod Verdicts
+pub mod Removals

@@ -10,39 +10,41 @@ use Rattle.due_model.specs.declared.notice.Notice.{Notice}
 use Rattle.due_model.specs.declared.notice.Outcome.{Outcome}
 use Rattle.due_model.specs.declared.notice.Outcome.TheVariants.{Nothing, Sent, Suppressed}
 use Rattle.due_model.specs.declared.zone.Zone.{Zone}
-use Rattle.due_model.specs.Due.{receivers, notice_to, notices, due_for, due_at}
+use Rattle.due_model.specs.Due.{notice_to, notices, due_for, due_at}
 use Rattle.due_model.specs.Histories.{outcome, hist}
 use Rattle.due_model.specs.declared.rules.Attempt.{Attempt}
 use Rattle.due_laws.specs.Laws.{ComesBefore}
 use Rattle.lemmas.proofs.Lists.{AllPairs-nil, AllPairs-head, AllPairs-tail, AllPairs-append}
+use Rattle.due_model.specs.Receivers.{receivers}
+use Rattle.due_model.specs.declared.options.OptionLetters.{OptionLetters}
 use Rattle.lemmas.proofs.Notices.{receivers_increase, the_notice, notice_to_cases, notices_to_each}
 
-notices_to_in_order : (c : Config) (zone : Zone) (o : ℕ) (object : Object) (l event number : ℕ) (a : Attempt) (ks : List ℕ)
-    → AllPairs (λ x y. x < y) ks → AllPairs ComesBefore (flat_map (notice_to c zone o object l event number a) ks)
-notices_to_in_order c zone o object l event number a [] h = AllPairs-nil ComesBefore
-notices_to_in_order c zone o object l event number a (k ∷ ks) h =
-    let rest = flat_map (notice_to c zone o object l event number a) ks in
+notices_to_in_order : (c : Config) (zone : Zone) (o : ℕ) (object : Object) (l event number : ℕ) (a : Attempt) (told : Option OptionLetters) (ks : List ℕ)
+    → AllPairs (λ x y. x < y) ks → AllPairs ComesBefore (flat_map (notice_to c zone o object l event number a told) ks)
+notices_to_in_order c zone o object l event number a told [] h = AllPairs-nil ComesBefore
+notices_to_in_order c zone o object l event number a told (k ∷ ks) h =
+    let rest = flat_map (notice_to c zone o object l event number a told) ks in
     let this = the_notice o l event number a k in
-    let later = notices_to_in_order c zone o object l event number a ks (AllPairs-tail (λ x y. x < y) k ks h) in
+    let later = notices_to_in_order c zone o object l event number a told ks (AllPairs-tail (λ x y. x < y) k ks h) in
     let after : All (ComesBefore this) rest =
-    notices_to_each c zone o object l event number a (ComesBefore this) ks
+    notices_to_each c zone o object l event number a told (ComesBefore this) ks
     (All-weaker (λ y. k < y) (λ y. ComesBefore this (the_notice o l event number a y)) (λ y less. inr (refl, less)) ks (AllPairs-head (λ x y. x < y) k ks h))
     in
-    notice_to_cases c zone o object l event number a k (λ xs. AllPairs ComesBefore (xs ++ rest)) later (AllPairs-cons ComesBefore this rest after later)
+    notice_to_cases c zone o object l event number a told k (λ xs. AllPairs ComesBefore (xs ++ rest)) later (AllPairs-cons ComesBefore this rest after later)
 
 -- the notices of one outcome stand in order, and at their event
 notices_in_order : (c : Config) (zone : Zone) (o : ℕ) (object : Object) (l event : ℕ) (x : Outcome) → AllPairs ComesBefore (notices c zone o object l event x)
 notices_in_order c zone o object l event Nothing = AllPairs-nil ComesBefore
-notices_in_order c zone o object l event (Sent k s number m gap) =
+notices_in_order c zone o object l event (Sent k s number m gap reach) =
     let a : Attempt = record { kind = k; state = s; moment = m } in
-    notices_to_in_order c zone o object l event number a (receivers c zone o object a number) (receivers_increase c zone o object a number)
+    notices_to_in_order c zone o object l event number a reach.told (receivers c zone o object a number reach.standing) (receivers_increase c zone o object a number reach.standing)
 notices_in_order c zone o object l event (Suppressed k s number m why) = AllPairs-nil ComesBefore
 
 notices_at_event : (c : Config) (zone : Zone) (o : ℕ) (object : Object) (l event : ℕ) (x : Outcome) → All (λ n. n.event ≡ event) (notices c zone o object l event x)
 notices_at_event c zone o object l event Nothing = All-nil (λ (n : Notice). n.event ≡ event)
-notices_at_event c zone o object l event (Sent k s number m gap) =
+notices_at_event c zone o object l event (Sent k s number m gap reach) =
     let a : Attempt = record { kind = k; state = s; moment = m } in
-    notices_to_each c zone o object l event number a (λ n. n.event ≡ event) (receivers c zone o object a number) (λ i d h. refl)
+    notices_to_each c zone o object l event number a reach.told (λ n. n.event ≡ event) (receivers c zone o object a number reach.standing) (λ i d h. refl)
 notices_at_event c zone o object l event (Suppressed k s number m why) = All-nil (λ (n : Notice). n.event ≡ event)
 
 -- what an event adds to what is due stands at that event

@@ -8,15 +8,15 @@ use Rattle.due_model.specs.declared.config.Config.{Config}
 use Rattle.due_model.specs.declared.config.Object.{Object}
 use Rattle.due_model.specs.declared.event.Event.{Event}
 use Rattle.due_model.specs.declared.event.EventKind.{EventKind}
-use Rattle.due_model.specs.declared.event.EventKind.TheVariants.{Clock, Program, Hard, Downtime, Flapping, Ack}
+use Rattle.due_model.specs.declared.event.EventKind.TheVariants.{Clock, Program, Hard, Downtime, Flapping, Ack, AckRemoved, OwnSwitch}
 use Rattle.due_model.specs.declared.event.DowntimeChange.TheVariants.{Start, End, Cancelled}
 use Rattle.due_model.specs.declared.notice.Outcome.{Outcome}
 use Rattle.due_model.specs.declared.notice.Outcome.TheVariants.{Nothing, Sent, Suppressed}
 use Rattle.due_model.specs.declared.zone.Zone.{Zone}
-use Rattle.due_model.specs.Histories.{last_notice, ready, retry_after}
+use Rattle.due_model.specs.Histories.{after_notice, last_notice, ready, retry_after}
 use Rattle.due_laws.specs.Readings.{IsGreatestStamp, tries_problem, ready_after, starts_downtime, ends_downtime, starts_in, ends_in, Outnumbers}
 use Rattle.due_model.specs.Readings.{moment, down, depth, depth_after}
-use Rattle.due_model.specs.Rules.{is_problem, next_notice}
+use Rattle.due_model.specs.Rules.{is_problem}
 use Rattle.lemmas.proofs.Lists.{All-reverse}
 
 pub reverse_split : {X : Type 0} (front : List X) (x : X) (rest : List X) → reverse (front ++ x ∷ rest) ≡ reverse rest ++ x ∷ reverse front
@@ -58,7 +58,7 @@ greatest_stamp feed = record {
 
 ready-cons_no : (c : Config) (zone : Zone) (object : Object) (began : ℕ) (x : Outcome) (rest : List Outcome) → tries_problem x ≡ false → ready c zone object began (x ∷ rest) ≡ ready c zone object began rest
 ready-cons_no c zone object began Nothing rest h = refl
-ready-cons_no c zone object began (Sent k s number m gap) rest h = cond-false (is_problem k) (next_notice m gap) (ready c zone object began rest) h
+ready-cons_no c zone object began (Sent k s number m gap reach) rest h = cond-false (is_problem k) (after_notice m gap reach) (ready c zone object began rest) h
 ready-cons_no c zone object began (Suppressed k s number m f) rest h = cond-false (is_problem k) (retry_after c zone object began (last_notice rest) m f) (ready c zone object began rest) h
 
 ready-append_no : (c : Config) (zone : Zone) (object : Object) (began : ℕ) (later rest : List Outcome) → All (λ y. tries_problem y ≡ false) later
@@ -71,7 +71,7 @@ ready-append_no c zone object began (x ∷ later) rest h =
 ready-cons_yes : (c : Config) (zone : Zone) (object : Object) (began : ℕ) (x : Outcome) (front : List Outcome) → tries_problem x ≡ true
     → ready c zone object began (x ∷ reverse front) ≡ ready_after c zone object began front x
 ready-cons_yes c zone object began Nothing front h = cc
-ready-cons_yes c zone object began (Sent k s number m gap) front h = cond-true (is_problem k) (next_notice m gap) (ready c zone object began (reverse front)) h
+ready-cons_yes c zone object began (Sent k s number m gap reach) front h = cond-true (is_problem k) (after_notice m gap reach) (ready c zone object began (reverse front)) h
 ready-cons_yes c zone object began (Suppressed k s number m f) front h =
     cond-true (is_problem k) (retry_after c zone object began (last_notice (reverse front)) m f) (ready c zone object began (reverse front)) h
 
@@ -123,7 +123,9 @@ counted o Clock d = nothing_counted d
 counted o (Program on) d = nothing_counted d
 counted o (Hard p s) d = nothing_counted d
 counted o (Flapping p starts) d = nothing_counted d
-counted o (Ack p sticky) d = nothing_counted d
+counted o (Ack p ack) d = nothing_counted d
+counted o (AckRemoved p) d = nothing_counted d
+counted o (OwnSwitch p on) d = nothing_counted d
 counted o (Downtime p Start) d = start_counted (p.0 == o) d
 counted o (Downtime p End) d = end_counted (p.0 == o) d
 counted o (Downtime p Cancelled) d = end_counted (p.0 == o) d

@@ -1,5 +1,5 @@
 -- How each attempt is answered: by notices and suppressions, whatever the configuration and the events.
-use Rattle.std.specs.Prelude.{◌≡◌, ℕ, ◌⊎◌, Bool, true, false, List, [], ◌∷◌, length, filter, slice_get, Contains, ◌==◌, Option, None, Some, MatchOption, if◌then◌else◌}
+use Rattle.std.specs.Prelude.{◌≡◌, ℕ, ◌⊎◌, ◌&&◌, Bool, true, false, List, [], ◌∷◌, length, filter, slice_get, Contains, ◌==◌, Option, None, Some, MatchOption, if◌then◌else◌}
 use Rattle.due_model.specs.declared.config.Config.{Config}
 use Rattle.due_model.specs.declared.config.Contact.{Contact}
 use Rattle.due_model.specs.declared.config.Object.{Object}
@@ -10,10 +10,12 @@ use Rattle.due_model.specs.declared.notice.Kind.{Kind}
 use Rattle.due_model.specs.declared.notice.Notice.{Notice}
 use Rattle.due_model.specs.declared.notice.Suppression.{Suppression}
 use Rattle.due_model.specs.declared.zone.Zone.{Zone}
-use Rattle.due_model.specs.Due.{due_at, suppressed_at, receivers, rights_for, uses_lane}
-use Rattle.due_model.specs.Histories.{before, hist, notices_sent, number_after, ready, status_after}
+use Rattle.due_model.specs.Due.{due_at, suppressed_at, uses_lane}
+use Rattle.due_model.specs.Receivers.{receivers, rights_for}
+use Rattle.due_model.specs.Histories.{before, hist, notices_sent, number_after, ready, ready_or, released, repeats, status_after, timed, with_repeat}
+use Rattle.due_model.specs.Changes.{delayed}
 use Rattle.due_laws.specs.Laws.{last_problem}
-use Rattle.due_model.specs.Readings.{moment, hard, began}
+use Rattle.due_model.specs.Readings.{moment, hard, is_problem_state}
 use Rattle.due_model.specs.Rules.{attempted}
 
 -- whether a filter is one of a contact, or of the object
@@ -29,9 +31,11 @@ is_of_contact filters.Dependency = false
 is_of_contact filters.Acknowledged = false
 is_of_contact filters.FirstDelay = false
 is_of_contact filters.Interval = false
+is_of_contact filters.HostDown = false
 is_of_contact filters.ContactDisabled = true
 is_of_contact filters.ContactOptions = true
 is_of_contact filters.ContactPeriod = true
+is_of_contact filters.ContactNotTold = true
 
 -- nobody is notified, and nothing is suppressed
 pub record IsSilent (notices : ℕ → List Notice) (suppressions : List Suppression) : Type 0 where
@@ -73,8 +77,12 @@ ReachesEach c object ks notices suppressions = (k : ℕ) (contact : Contact) →
 
 -- what an event attempts on the object, if anything
 abbrev pub attempt_of_event : Config → Zone → ℕ → Object → Event → List Event → Option Kind
-attempt_of_event c zone o object e past = attempted o e.kind (status_after o past)
-    (ready c zone object (began o past) (last_problem c zone o object past)) (moment (e ∷ past))
+attempt_of_event c zone o object e past =
+    with_repeat (repeats c o e.kind past && is_problem_state (hard o past))
+    (attempted o e.kind (status_after o past)
+    (timed c (ready_or (released o past (hist c zone o object past))
+    (ready c zone object (delayed c o past) (last_problem c zone o object past))))
+    (moment (e ∷ past)))
 
 -- the contacts that a notice of this kind at an event goes to
 abbrev pub receivers_at : Config → Zone → ℕ → Object → Event → List Event → Kind → List ℕ
@@ -82,6 +90,7 @@ receivers_at c zone o object e past k =
     receivers c zone o object
     (record { kind = k; state = hard o (e ∷ past); moment = moment (e ∷ past) })
     (number_after (notices_sent (before o e past (hist c zone o object past))) k)
+    (notices_sent (before o e past (hist c zone o object past)))
 
 -- An event that attempts nothing leaves no trace. Each attempt is stopped by a filter of the object, or each contact that it
 -- goes to is notified or refused (chapter "Notifications").

@@ -4,7 +4,7 @@ use Rattle.due_model.specs.declared.config.Config.{Config}
 use Rattle.due_model.specs.declared.config.Dependency.{Dependency}
 use Rattle.due_model.specs.declared.state.State.{State}
 use Rattle.due_model.specs.declared.zone.Zone.{Zone}
-use Rattle.due_model.specs.Dependencies.{dependency_fails, has_state}
+use Rattle.due_model.specs.Dependencies.{dependency_fails, fails_at}
 use Rattle.due_model.specs.Periods.{in_period}
 
 -- A chain of entries leads from object o to the master of the last: the first is of o, and each other of the master of the one before
@@ -16,7 +16,7 @@ pub record IsFailingChain (c : Config) (zone : Zone) (states : ℕ → State) (t
       ≡ o ∷ map (λ entry. entry.master.0) front
   pub in_time : All (λ entry. in_period c zone entry.period t ≡ true) (front ++ last ∷ [])
   pub inherited : All (λ entry. entry.inherits ≡ true) front
-  pub listed : has_state last.states (states last.master.0) ≡ true
+  pub listed : fails_at c.choices.dep_pending last.states (states last.master.0) ≡ true
 
 -- A dependency of an object fails exactly where there is such a chain (chapter "Host and Service Dependencies").
 abbrev pub DependenciesFailByChains : Type 0

@@ -1,5 +1,5 @@
 -- What holds of the notices that are due and of the suppressions, whatever the configuration and the events.
-use Rattle.std.specs.Prelude.{◌≡◌, ◌≢◌, ℕ, ◌+◌, ◌-◌, ◌<◌, ◌≤◌, ◌⊎◌, true, false, List, ◌++◌, length, drop, reverse, slice_get, filter_map, All, AllPairs, Option, None, Some, if◌then◌else◌}
+use Rattle.std.specs.Prelude.{◌≡◌, ◌≢◌, ℕ, ◌+◌, ◌-◌, ◌<◌, ◌≤◌, ◌⊎◌, ◌&&◌, true, false, List, ◌++◌, length, drop, reverse, slice_get, filter_map, All, AllPairs, Option, None, Some, if◌then◌else◌}
 use Rattle.std.specs.List.{range_with_len}
 use Rattle.std.specs.Option.{ForSome}
 use Rattle.due_model.specs.declared.config.Config.{Config}
@@ -13,7 +13,7 @@ use Rattle.due_model.specs.declared.notice.Outcome.TheVariants.{Nothing, Sent, S
 use Rattle.due_model.specs.declared.zone.Zone.{Zone}
 use Rattle.due_model.specs.Due.{due, sup}
 use Rattle.due_model.specs.Histories.{hist, of_problem, notice_of, notices_sent}
-use Rattle.due_model.specs.Readings.{moment, hard, program_on, flapping, down}
+use Rattle.due_model.specs.Readings.{moment, hard, program_on, flapping, down, is_problem_state}
 use Rattle.due_model.specs.declared.rules.Last.{Last}
 use Rattle.due_model.specs.Rules.{is_of_problem, is_problem, is_recovery}
 
@@ -76,6 +76,15 @@ ProblemsAreHeldBack = (c : Config) (zone : Zone) (o l : ℕ) (object : Object) (
     → All (λ n. is_of_problem n.kind ≡ true → NothingHoldsBack o object (up_to past n.event))
     (due c zone o l past)
 
+-- Where the daemon's rule holds services back whose host isn't UP, their problems and recoveries are notified of only while
+-- it isn't so.
+abbrev pub ServicesWaitForTheirHosts : Type 0
+ServicesWaitForTheirHosts = (c : Config) (zone : Zone) (o l : ℕ) (object : Object)
+    (past : List Event) → c.choices.host_down ≡ true → slice_get c.objects o ≡ Some object
+    → All (λ n. is_of_problem n.kind ≡ true
+    → ForSome object.host (λ h. is_problem_state (hard h.0 (up_to past n.event)) ≡ false))
+    (due c zone o l past)
+
 -- the outcomes of the object's last problem
 abbrev pub last_problem : Config → Zone → ℕ → Object → List Event → List Outcome
 last_problem c zone o object past = of_problem o past (hist c zone o object past)
@@ -91,7 +100,8 @@ RecoveriesFollowNotices = (c : Config) (zone : Zone) (o l : ℕ) (object : Objec
 -- the number of an outcome that is a problem notice
 abbrev pub notice_number : Outcome → Option ℕ
 notice_number Nothing = None
-notice_number (Sent k state number moment gap) = if is_problem k then Some number else None
+notice_number (Sent k state number moment gap reach) =
+    if is_problem k && reach.heard then Some number else None
 notice_number (Suppressed k state number moment why) = None
 
 -- The problem notices of one problem are numbered 1, 2, 3 and so on (chapter "Notification Escalations").
@@ -100,11 +110,20 @@ NumbersGoUpByOne = (c : Config) (zone : Zone) (o : ℕ) (object : Object) (past 
     → filter_map notice_number (reverse (last_problem c zone o object past))
     ≡ range_with_len 1 (notices_sent (last_problem c zone o object past))
 
+-- nothing ends a wait but its gap
+pub record WaitsAreOwn (c : Config) (object : Object) : Type 0 where
+  pub no_reset : c.choices.reset_wait ≡ false
+  pub no_period : c.choices.period_wait ≡ false
+  pub no_downtime : c.choices.downtime_wait ≡ false
+  pub not_volatile : object.volatile ≡ false
+
 -- Of two problem notices of one problem in a row that report the same state, the second comes no sooner than the gap of the
--- first after it, and never where that gap is 0 (chapter "Notifications").
+-- first after it, and never where that gap is 0 (chapter "Notifications"), unless the daemon's rules end waits or
+-- the service is volatile.
 abbrev pub NoticesKeepTheirGaps : Type 0
-NoticesKeepTheirGaps = (c : Config) (zone : Zone) (o : ℕ) (object : Object) (past : List Event)
-    (i : ℕ) (earlier later : Last)
+NoticesKeepTheirGaps = (c : Config) (zone : Zone) (o : ℕ) (object : Object)
+    → WaitsAreOwn c object
+    → (past : List Event) (i : ℕ) (earlier later : Last)
     → slice_get (filter_map notice_of (last_problem c zone o object past)) i ≡ Some later
     → slice_get (filter_map notice_of (last_problem c zone o object past)) (i + 1) ≡ Some earlier
     → earlier.state ≡ later.state
@@ -119,6 +138,7 @@ number_carried kind.FlappingStop sent = 0
 number_carried kind.DowntimeStart sent = 0
 number_carried kind.DowntimeEnd sent = 0
 number_carried kind.DowntimeCancelled sent = 0
+number_carried kind.Acknowledgement sent = 0
 
 -- Each notice carries that number.
 abbrev pub NoticesAreNumbered : Type 0

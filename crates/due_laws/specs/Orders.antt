@@ -51,6 +51,9 @@ all_fail = record {
   began = 1000;
   delay = 1;
   last = Some (record { state = state.Down; moment = 1000; gap = 60 });
+  renews = false;
+  told = no_letter;
+  host_problem = true;
 }
 
 abbrev pub switched_on : View
@@ -83,10 +86,13 @@ after_delay = record not_taken_on { delay = 0 }
 abbrev pub never_told : View
 never_told = record after_delay { last = None }
 
+abbrev pub host_up : View
+host_up = record never_told { host_problem = false }
+
 -- all of these in a row
 abbrev pub mended : List View
 mended = all_fail ∷ switched_on ∷ enabled ∷ up_again ∷ steady ∷ with_options ∷ in_time
-    ∷ independent ∷ not_taken_on ∷ after_delay ∷ never_told ∷ []
+    ∷ independent ∷ not_taken_on ∷ after_delay ∷ never_told ∷ host_up ∷ []
 
 -- the same, after one notice of the problem
 abbrev pub told_once : View → View
@@ -102,36 +108,42 @@ stopped_by k views = map (λ v. failing never_open Utc v (attempt k)) views
 -- no downtime holds a notification of a downtime back, nor flapping, nor a dependency
 abbrev pub stops_of_downtime : List (Option Filter)
 stops_of_downtime = Some filter.Program ∷ Some filter.Disabled ∷ Some filter.Options
-    ∷ Some filter.Options ∷ Some filter.Options ∷ Some filter.Period ∷ None ∷ None ∷ None ∷ None ∷ None ∷ []
+    ∷ Some filter.Options ∷ Some filter.Options ∷ Some filter.Period ∷ None ∷ None ∷ None ∷ None ∷ None ∷ None ∷ []
 
 abbrev pub stops_of_flapping : List (Option Filter)
 stops_of_flapping = Some filter.Program ∷ Some filter.Disabled ∷ Some filter.Downtime
-    ∷ Some filter.Options ∷ Some filter.Options ∷ Some filter.Period ∷ None ∷ None ∷ None ∷ None ∷ None ∷ []
+    ∷ Some filter.Options ∷ Some filter.Options ∷ Some filter.Period ∷ None ∷ None ∷ None ∷ None ∷ None ∷ None ∷ []
+
+-- nothing of that holds one of an acknowledgement back, nor do the options
+abbrev pub stops_of_acknowledgement : List (Option Filter)
+stops_of_acknowledgement = Some filter.Program ∷ Some filter.Disabled ∷ Some filter.Period
+    ∷ Some filter.Period ∷ Some filter.Period ∷ Some filter.Period ∷ None ∷ None ∷ None ∷ None ∷ None ∷ None ∷ []
 
 -- The first filter that fails is named, of those that speak of the kind (chapter "Notifications").
 pub record FiltersStandInOrder : Type 0 where
   pub problem : stopped_by kind.Problem mended ≡
       Some filter.Program ∷ Some filter.Disabled ∷ Some filter.Downtime ∷ Some filter.Flapping
       ∷ Some filter.Options ∷ Some filter.Period ∷ Some filter.Dependency
-      ∷ Some filter.Acknowledged ∷ Some filter.FirstDelay ∷ Some filter.Interval ∷ None ∷ []
+      ∷ Some filter.Acknowledged ∷ Some filter.FirstDelay ∷ Some filter.Interval ∷ Some filter.HostDown ∷ None ∷ []
   pub problem_after_one : stopped_by kind.Problem mended_after_one ≡
       Some filter.Program ∷ Some filter.Disabled ∷ Some filter.Downtime ∷ Some filter.Flapping
       ∷ Some filter.Options ∷ Some filter.Period ∷ Some filter.Dependency
-      ∷ Some filter.Acknowledged ∷ Some filter.Interval ∷ Some filter.Interval ∷ None ∷ []
+      ∷ Some filter.Acknowledged ∷ Some filter.Interval ∷ Some filter.Interval ∷ Some filter.HostDown ∷ None ∷ []
   pub recovery : stopped_by kind.Recovery mended ≡
       Some filter.Program ∷ Some filter.Disabled ∷ Some filter.Downtime ∷ Some filter.Flapping
       ∷ Some filter.Options ∷ Some filter.NoProblem ∷ Some filter.NoProblem
       ∷ Some filter.NoProblem ∷ Some filter.NoProblem ∷ Some filter.NoProblem
-      ∷ Some filter.NoProblem ∷ []
+      ∷ Some filter.NoProblem ∷ Some filter.NoProblem ∷ []
   pub recovery_after_one : stopped_by kind.Recovery mended_after_one ≡
       Some filter.Program ∷ Some filter.Disabled ∷ Some filter.Downtime ∷ Some filter.Flapping
-      ∷ Some filter.Options ∷ Some filter.Period ∷ Some filter.Dependency ∷ None ∷ None ∷ None
-      ∷ None ∷ []
+      ∷ Some filter.Options ∷ Some filter.Period ∷ Some filter.Dependency ∷ Some filter.HostDown ∷ Some filter.HostDown
+      ∷ Some filter.HostDown ∷ Some filter.HostDown ∷ None ∷ []
   pub flapping_start : stopped_by kind.FlappingStart mended ≡ stops_of_flapping
   pub flapping_stop : stopped_by kind.FlappingStop mended ≡ stops_of_flapping
   pub downtime_start : stopped_by kind.DowntimeStart mended ≡ stops_of_downtime
   pub downtime_end : stopped_by kind.DowntimeEnd mended ≡ stops_of_downtime
   pub downtime_cancelled : stopped_by kind.DowntimeCancelled mended ≡ stops_of_downtime
+  pub acknowledgement : stopped_by kind.Acknowledgement mended ≡ stops_of_acknowledgement
 
 -- the rights of a contact, mended likewise
 abbrev pub refuses_all : Rights
@@ -145,5 +157,5 @@ mended_rights = refuses_all ∷ record refuses_all { enabled = true }
 -- The first filter of a contact that fails is named, whatever the kind (chapter "Notifications").
 abbrev pub ContactFiltersStandInOrder : Type 0
 ContactFiltersStandInOrder = (k : Kind)
-    → map (λ rights. contact_failing never_open Utc rights (attempt k)) mended_rights
+    → map (λ rights. contact_failing never_open Utc rights (attempt k) None) mended_rights
     ≡ Some filter.ContactDisabled ∷ Some filter.ContactOptions ∷ Some filter.ContactPeriod ∷ None ∷ []

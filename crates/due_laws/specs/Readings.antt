@@ -4,7 +4,7 @@ use Rattle.due_model.specs.declared.config.Config.{Config}
 use Rattle.due_model.specs.declared.config.Object.{Object}
 use Rattle.due_model.specs.declared.event.Event.{Event}
 use Rattle.due_model.specs.declared.event.EventKind.{EventKind}
-use Rattle.due_model.specs.declared.event.EventKind.TheVariants.{Clock, Program, Hard, Downtime, Flapping, Ack}
+use Rattle.due_model.specs.declared.event.EventKind.TheVariants.{Clock, Program, Hard, Downtime, Flapping, Ack, AckRemoved, OwnSwitch}
 use Rattle.due_model.specs.declared.event.DowntimeChange.TheVariants.{Start, End, Cancelled}
 use Rattle.due_model.specs.declared.notice.Outcome.{Outcome}
 use Rattle.due_model.specs.declared.notice.Outcome.TheVariants.{Nothing, Sent, Suppressed}
@@ -12,9 +12,9 @@ use Rattle.due_model.specs.declared.state.State.{State}
 use Rattle.due_model.specs.declared.state.State.TheVariants as state
 use Rattle.due_model.specs.declared.zone.Zone.{Zone}
 use Rattle.due_model.specs.Acknowledgements.{is_ok_of}
-use Rattle.due_model.specs.Histories.{of_problem, notices_sent, last_notice, ready, retry_after}
-use Rattle.due_model.specs.Readings.{moment, program_on, hard, flapping, down, began, is_problem_of, is_problem_state}
-use Rattle.due_model.specs.Rules.{is_problem, next_notice}
+use Rattle.due_model.specs.Histories.{of_problem, notices_sent, last_notice, ready, retry_after, after_notice, is_enabled}
+use Rattle.due_model.specs.Readings.{moment, program_on, hard, flapping, down, began, is_problem_of, is_problem_state, switched}
+use Rattle.due_model.specs.Rules.{is_problem}
 
 -- The moment after some events is at least each stamp, and one of them.
 pub record IsGreatestStamp (feed : List Event) (m : ℕ) : Type 0 where
@@ -27,13 +27,13 @@ MomentIsGreatestStamp = (feed : List Event) → IsGreatestStamp feed (moment (re
 -- an outcome of an attempt as a problem
 abbrev pub tries_problem : Outcome → Bool
 tries_problem Nothing = false
-tries_problem (Sent k s number m gap) = is_problem k
+tries_problem (Sent k s number m gap reach) = is_problem k
 tries_problem (Suppressed k s number m why) = is_problem k
 
 -- when the clock attempts a problem again after this outcome, which followed those
 abbrev pub ready_after : Config → Zone → Object → (began : ℕ) → List Outcome → Outcome → Option ℕ
 ready_after c zone object began front Nothing = None
-ready_after c zone object began front (Sent k s number m gap) = next_notice m gap
+ready_after c zone object began front (Sent k s number m gap reach) = after_notice m gap reach
 ready_after c zone object began front (Suppressed k s number m why) = retry_after c zone object
     began (last_notice (reverse front)) m why
 
@@ -57,7 +57,9 @@ starts_downtime o (Downtime p Start) = p.0 == o
 starts_downtime o (Downtime p End) = false
 starts_downtime o (Downtime p Cancelled) = false
 starts_downtime o (Flapping p starts) = false
-starts_downtime o (Ack p sticky) = false
+starts_downtime o (Ack p ack) = false
+starts_downtime o (AckRemoved p) = false
+starts_downtime o (OwnSwitch p on) = false
 
 abbrev pub ends_downtime : ℕ → EventKind → Bool
 ends_downtime o Clock = false
@@ -67,7 +69,9 @@ ends_downtime o (Downtime p Start) = false
 ends_downtime o (Downtime p End) = p.0 == o
 ends_downtime o (Downtime p Cancelled) = p.0 == o
 ends_downtime o (Flapping p starts) = false
-ends_downtime o (Ack p sticky) = false
+ends_downtime o (Ack p ack) = false
+ends_downtime o (AckRemoved p) = false
+ends_downtime o (OwnSwitch p on) = false
 
 abbrev pub starts_in : ℕ → List Event → ℕ
 starts_in o events = count_by (λ e. starts_downtime o e.kind) events
@@ -106,7 +110,9 @@ is_pending_event (Program on) = false
 is_pending_event (Hard p s) = is_pending s
 is_pending_event (Downtime p change) = false
 is_pending_event (Flapping p starts) = false
-is_pending_event (Ack p sticky) = false
+is_pending_event (Ack p ack) = false
+is_pending_event (AckRemoved p) = false
+is_pending_event (OwnSwitch p on) = false
 
 -- event b, with `later` after it, is a hard problem state of the object, and no event strictly between it and the last is a hard
 -- OK state of it
@@ -153,7 +159,9 @@ hard_state_of o (Program on) = None
 hard_state_of o (Hard p s) = if p.0 == o then Some s else None
 hard_state_of o (Downtime p change) = None
 hard_state_of o (Flapping p starts) = None
-hard_state_of o (Ack p sticky) = None
+hard_state_of o (Ack p ack) = None
+hard_state_of o (AckRemoved p) = None
+hard_state_of o (OwnSwitch p on) = None
 
 -- whether an event says that object o starts or stops flapping, if it says so
 abbrev pub flapping_of : ℕ → EventKind → Option Bool
@@ -162,7 +170,9 @@ flapping_of o (Program on) = None
 flapping_of o (Hard p s) = None
 flapping_of o (Downtime p change) = None
 flapping_of o (Flapping p starts) = if p.0 == o then Some starts else None
-flapping_of o (Ack p sticky) = None
+flapping_of o (Ack p ack) = None
+flapping_of o (AckRemoved p) = None
+flapping_of o (OwnSwitch p on) = None
 
 -- the program switch that an event sets, if it sets one
 abbrev pub switch_of : EventKind → Option Bool
@@ -171,7 +181,20 @@ switch_of (Program on) = Some on
 switch_of (Hard p s) = None
 switch_of (Downtime p change) = None
 switch_of (Flapping p starts) = None
-switch_of (Ack p sticky) = None
+switch_of (Ack p ack) = None
+switch_of (AckRemoved p) = None
+switch_of (OwnSwitch p on) = None
+
+-- the own switch of object o that an event sets, if it sets it
+abbrev pub own_switch_of : ℕ → EventKind → Option Bool
+own_switch_of o Clock = None
+own_switch_of o (Program on) = None
+own_switch_of o (Hard p s) = None
+own_switch_of o (Downtime p change) = None
+own_switch_of o (Flapping p starts) = None
+own_switch_of o (Ack p ack) = None
+own_switch_of o (AckRemoved p) = None
+own_switch_of o (OwnSwitch p on) = if p.0 == o then Some on else None
 
 -- a value is that of the last event of the feed that gives one; where none does, it is the first value
 abbrev pub IsOfLastEvent : {X : Type 0} → (EventKind → Option X) → X → List Event → X → Type 0
@@ -194,3 +217,10 @@ FlappingIsOfLastEvent = (o : ℕ) (feed : List Event)
 abbrev pub SwitchIsOfLastEvent : Type 0
 SwitchIsOfLastEvent = (feed : List Event)
     → IsOfLastEvent switch_of true feed (program_on (reverse feed))
+
+-- An object's notifications are on as the last event that switches them says; as the object text says, where none does
+-- (chapter "External Commands").
+abbrev pub OwnSwitchIsOfLastEvent : Type 0
+OwnSwitchIsOfLastEvent = (o : ℕ) (object : Object) (feed : List Event)
+    → IsOfLastEvent (own_switch_of o) object.enabled feed
+    (is_enabled object (switched o (reverse feed)))

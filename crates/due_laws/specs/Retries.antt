@@ -79,6 +79,8 @@ waits_a_minute filter.Interval = false
 waits_a_minute filter.ContactDisabled = true
 waits_a_minute filter.ContactOptions = true
 waits_a_minute filter.ContactPeriod = true
+waits_a_minute filter.HostDown = true
+waits_a_minute filter.ContactNotTold = true
 
 -- After each such filter it is 60 seconds; after an acknowledgement the clock never tries again.
 pub record RetriesAreThese : Type 0 where

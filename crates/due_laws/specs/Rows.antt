@@ -23,6 +23,7 @@ use Rattle.due_model.specs.declared.state.State.{State}
 use Rattle.due_model.specs.declared.state.State.TheVariants as state
 use Rattle.due_model.specs.declared.state.StateSet.{StateSet}
 use Rattle.due_model.specs.declared.zone.Zone.TheVariants.{Utc}
+use Rattle.due_model.specs.Choices.{own}
 use Rattle.due_model.specs.Due.{due, sup}
 use Rattle.due_model.specs.Options.{every_letter}
 use Rattle.due_model.specs.Periods.{in_period, next_in}
@@ -50,6 +51,7 @@ web = record {
   period = None;
   interval = 1;
   delay = 0;
+  volatile = false;
   contacts = record { 0 = 0 } ∷ [];
 }
 
@@ -60,6 +62,7 @@ service name = record web { name = name; host = Some (record { 0 = 0 }) }
 -- the host web, the contact ann, the command mail
 abbrev pub base : Config
 base = record {
+  choices = own;
   objects = web ∷ [];
   contacts = by_mail (codes "ann") ∷ [];
   lanes = record { name = codes "mail" } ∷ [];
@@ -263,9 +266,14 @@ WhileFlapping = Gives base 0
     ∷ (4, 1070, kind.Problem, state.Down, 1, 0) ∷ [])
     ((1, 1010, kind.Problem, state.Down, filter.Flapping) ∷ [])
 
+-- somebody takes the problem of web on, and nobody is told of that
+abbrev pub acked_by_somebody : (sticky : Bool) → EventKind
+acked_by_somebody sticky =
+    event.Ack (record { 0 = 0 }) (record { sticky = sticky; notify = false })
+
 -- web is down, somebody takes that on, it is still down, then unreachable, and up again
 abbrev pub acknowledged_once : (sticky : Bool) → List Event
-acknowledged_once sticky = at 1000 (has 0 state.Down) ∷ at 1010 (event.Ack (record { 0 = 0 }) sticky)
+acknowledged_once sticky = at 1000 (has 0 state.Down) ∷ at 1010 (acked_by_somebody sticky)
     ∷ at 1060 event.Clock ∷ at 1120 event.Clock ∷ at 1130 (has 0 state.Down)
     ∷ at 1140 (has 0 state.Unreachable) ∷ at 1150 (has 0 state.Up) ∷ []
 
@@ -286,12 +294,48 @@ Acknowledged = Gives base 0 (acknowledged_once false)
 -- an acknowledgement of an object that is up is none, and none outlasts an OK state
 abbrev pub AcknowledgedUp : Type 0
 AcknowledgedUp = Gives base 0
-    (at 1000 (event.Ack (record { 0 = 0 }) true) ∷ at 1010 (has 0 state.Up)
-    ∷ at 1020 (event.Ack (record { 0 = 0 }) true) ∷ at 1030 (has 0 state.Down)
-    ∷ at 1040 (event.Ack (record { 0 = 0 }) true) ∷ at 1050 (has 0 state.Up)
+    (at 1000 (acked_by_somebody true) ∷ at 1010 (has 0 state.Up)
+    ∷ at 1020 (acked_by_somebody true) ∷ at 1030 (has 0 state.Down)
+    ∷ at 1040 (acked_by_somebody true) ∷ at 1050 (has 0 state.Up)
     ∷ at 1060 (has 0 state.Down) ∷ [])
     ((3, 1030, kind.Problem, state.Down, 1, 0) ∷ (5, 1050, kind.Recovery, state.Up, 2, 0)
     ∷ (6, 1060, kind.Problem, state.Down, 1, 0) ∷ [])
+    []
+
+-- an acknowledgement that is taken back holds nothing back any more, and the clock attempts the problem again
+abbrev pub TakenBack : Type 0
+TakenBack = Gives base 0
+    (at 1000 (has 0 state.Down) ∷ at 1010 (acked_by_somebody true)
+    ∷ at 1060 event.Clock ∷ at 1070 (event.AckRemoved (record { 0 = 0 })) ∷ at 1080 event.Clock ∷ [])
+    ((0, 1000, kind.Problem, state.Down, 1, 0) ∷ (4, 1080, kind.Problem, state.Down, 2, 0) ∷ [])
+    ((2, 1060, kind.Problem, state.Down, filter.Acknowledged) ∷ [])
+
+-- where that is asked for, an acknowledgement of a problem is told itself, also in a downtime; not one of an object that is up
+abbrev pub ToldOfAcknowledgements : Type 0
+ToldOfAcknowledgements = Gives base 0
+    (at 1000 (event.Ack (record { 0 = 0 }) (record { sticky = true; notify = true }))
+    ∷ at 1010 (event.Downtime (record { 0 = 0 }) change.Start) ∷ at 1020 (has 0 state.Down)
+    ∷ at 1030 (event.Ack (record { 0 = 0 }) (record { sticky = true; notify = true })) ∷ [])
+    ((1, 1010, kind.DowntimeStart, state.Pending, 0, 0)
+    ∷ (3, 1030, kind.Acknowledgement, state.Down, 0, 0) ∷ [])
+    ((2, 1020, kind.Problem, state.Down, filter.Downtime) ∷ [])
+
+-- an object's own switch, whatever the object text says
+abbrev pub SwitchedOff : Type 0
+SwitchedOff = Gives base 0
+    (at 1000 (event.OwnSwitch (record { 0 = 0 }) false) ∷ at 1010 (has 0 state.Down)
+    ∷ at 1020 (event.OwnSwitch (record { 0 = 0 }) true) ∷ at 1070 event.Clock ∷ [])
+    ((3, 1070, kind.Problem, state.Down, 1, 0) ∷ [])
+    ((1, 1010, kind.Problem, state.Down, filter.Disabled) ∷ [])
+
+-- a volatile service of interval 0 is notified of at each hard problem state, and not again by the clock
+abbrev pub VolatileService : Type 0
+VolatileService = Gives
+    (record base { objects = web ∷ record (service (codes "http")) { interval = 0; volatile = true } ∷ [] }) 1
+    (at 1000 (has 1 state.Critical) ∷ at 1001 (has 1 state.Critical) ∷ at 9000 event.Clock
+    ∷ at 9001 (has 1 state.Fine) ∷ [])
+    ((0, 1000, kind.Problem, state.Critical, 1, 0) ∷ (1, 1001, kind.Problem, state.Critical, 2, 0)
+    ∷ (3, 9001, kind.Recovery, state.Fine, 3, 0) ∷ [])
     []
 
 -- objects 1, 2 and 3 are the services A, C and B of web: A depends on B, and B on C

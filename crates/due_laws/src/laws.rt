@@ -3,7 +3,7 @@
 ghost use Rattle.due_laws.specs.Laws.{DueOnlyGrows, SuppressionsOnlyGrow, NoticesStandInOrder};
 ghost use Rattle.due_laws.specs.Laws.{NoticesStandOnce, NoticesTellOfEvents, ProblemsAreHeldBack};
 ghost use Rattle.due_laws.specs.Laws.{RecoveriesFollowNotices, NumbersGoUpByOne, NoticesAreNumbered};
-ghost use Rattle.due_laws.specs.Laws.{NoticesKeepTheirGaps};
+ghost use Rattle.due_laws.specs.Laws.{NoticesKeepTheirGaps, ServicesWaitForTheirHosts};
 
 /// What was due, or suppressed, after some events is the front of that after more events.
 pub fn only_grows()
@@ -22,6 +22,7 @@ pub fn tell_of_events()
     ensures events { NoticesTellOfEvents }
     ensures held_back { ProblemsAreHeldBack }
     ensures recoveries { RecoveriesFollowNotices }
+    ensures hosts { ServicesWaitForTheirHosts }
 {}
 
 /// The notices of one problem are numbered from 1 on, and keep their gaps.

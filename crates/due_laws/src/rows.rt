@@ -4,7 +4,8 @@ ghost use Rattle.due_laws.specs.Rows.{OneHostDown, EmptyFeed, Renotify, SameStat
 ghost use Rattle.due_laws.specs.Rows.{EscalationAndRecovery, OverlappingEscalations, IntervalZero};
 ghost use Rattle.due_laws.specs.Rows.{EscalationOptions, EscalationPeriod, OwnContacts};
 ghost use Rattle.due_laws.specs.Rows.{InDowntime, NestedDowntimes, WhileFlapping, DependencyChain};
-ghost use Rattle.due_laws.specs.Rows.{Acknowledged, AcknowledgedUp};
+ghost use Rattle.due_laws.specs.Rows.{Acknowledged, AcknowledgedUp, TakenBack, SwitchedOff};
+ghost use Rattle.due_laws.specs.Rows.{ToldOfAcknowledgements, VolatileService};
 ghost use Rattle.due_laws.specs.Rows.{FirstDelay, ContactOptions, WorkHours, NestedExclusion};
 
 /// The definitions give what the worked examples say of one host: a notice, none, the next after the
@@ -35,6 +36,10 @@ pub fn worked_filters()
     ensures dependency_chain { DependencyChain }
     ensures acknowledged { Acknowledged }
     ensures acknowledged_up { AcknowledgedUp }
+    ensures taken_back { TakenBack }
+    ensures told_of_acknowledgements { ToldOfAcknowledgements }
+    ensures switched_off { SwitchedOff }
+    ensures volatile_service { VolatileService }
     ensures first_delay { FirstDelay }
     ensures contact_options { ContactOptions }
 {}

@@ -1,51 +1,31 @@
 -- The notices that are due, and the suppressions.
-use Rattle.std.specs.Prelude.{ℕ, ◌-◌, Bool, List, [], ◌∷◌, ◌++◌, length, slice_get, flat_map, Some, None, is_some, ◌==◌, if◌then◌else◌}
+use Rattle.std.specs.Prelude.{ℕ, Bool, List, [], ◌∷◌, ◌++◌, length, slice_get, flat_map, Option, Some, None, ◌==◌, if◌then◌else◌}
 use Rattle.std.specs.List.{list_any}
 use Rattle.due_model.specs.declared.config.Config.{Config}
-use Rattle.due_model.specs.declared.config.Contact.{Contact}
 use Rattle.due_model.specs.declared.config.Object.{Object}
 use Rattle.due_model.specs.declared.config.Rights.{Rights}
 use Rattle.due_model.specs.declared.event.Event.{Event}
-use Rattle.due_model.specs.declared.options.OptionLetter.TheVariants as letter
-use Rattle.due_model.specs.declared.notice.Kind.{Kind}
-use Rattle.due_model.specs.declared.notice.Kind.TheVariants as kind
+use Rattle.due_model.specs.declared.options.OptionLetters.{OptionLetters}
 use Rattle.due_model.specs.declared.notice.Notice.{Notice}
 use Rattle.due_model.specs.declared.notice.Outcome.{Outcome}
 use Rattle.due_model.specs.declared.notice.Outcome.TheVariants.{Nothing, Sent, Suppressed}
 use Rattle.due_model.specs.declared.notice.Suppression.{Suppression}
 use Rattle.due_model.specs.declared.zone.Zone.{Zone}
 use Rattle.due_model.specs.declared.rules.Attempt.{Attempt}
-use Rattle.due_model.specs.Rules.{contact_failing, letter_of}
-use Rattle.due_model.specs.Escalations.{reach, contacts_with, has_contact}
+use Rattle.due_model.specs.Rules.{contact_failing}
+use Rattle.due_model.specs.Receivers.{receivers, rights_for}
 use Rattle.due_model.specs.Histories.{hist, outcome}
-
--- the contacts that a notice goes to, in number order: those of the matching escalations for a problem and its
--- recovery, which counts as the last notice there, and the object's own for other kinds
-abbrev pub receivers : Config → Zone → ℕ → Object → Attempt → (number : ℕ) → List ℕ
-receivers c zone o object a number = of_kind a.kind
-  where
-    of_kind : Kind → List ℕ
-    of_kind kind.Problem = reach c zone o object number (letter_of a.kind a.state) a.moment
-    of_kind kind.Recovery = reach c zone o object (number - 1) letter.Recovery a.moment
-    of_kind kind.FlappingStart = contacts_with c (has_contact object.contacts)
-    of_kind kind.FlappingStop = contacts_with c (has_contact object.contacts)
-    of_kind kind.DowntimeStart = contacts_with c (has_contact object.contacts)
-    of_kind kind.DowntimeEnd = contacts_with c (has_contact object.contacts)
-    of_kind kind.DowntimeCancelled = contacts_with c (has_contact object.contacts)
-
--- what a contact is notified of, for the kind of this object
-abbrev pub rights_for : Object → Contact → Rights
-rights_for object contact = if is_some object.host then contact.services else contact.hosts
 
 -- whether a contact's notices go out on lane l
 abbrev pub uses_lane : Rights → ℕ → Bool
 uses_lane rights l = list_any (λ lane. lane.0 == l) rights.lanes
 
 -- the notice of contact k on lane l, if the contact's filters pass and it uses that lane
-abbrev pub notice_to : Config → Zone → ℕ → Object → (l event number : ℕ) → Attempt → ℕ → List Notice
-notice_to c zone o object l event number a k = elim (slice_get c.contacts k) as (λ _. List Notice) [
+abbrev pub notice_to : Config → Zone → ℕ → Object → (l event number : ℕ) → Attempt
+    → (told : Option OptionLetters) → ℕ → List Notice
+notice_to c zone o object l event number a told k = elim (slice_get c.contacts k) as (λ _. List Notice) [
   | None ↦ []
-  | Some contact ↦ elim (contact_failing c zone (rights_for object contact) a)
+  | Some contact ↦ elim (contact_failing c zone (rights_for object contact) a told)
       as (λ _. List Notice) [
         | Some why ↦ []
         | None ↦ if uses_lane (rights_for object contact) l
@@ -65,12 +45,12 @@ notice_to c zone o object l event number a k = elim (slice_get c.contacts k) as 
 ]
 
 -- the suppression of contact k, if one of the contact's filters fails
-abbrev pub refusal_of : Config → Zone → ℕ → Object → (event number : ℕ) → Attempt → ℕ
-    → List Suppression
-refusal_of c zone o object event number a k =
+abbrev pub refusal_of : Config → Zone → ℕ → Object → (event number : ℕ) → Attempt
+    → (told : Option OptionLetters) → ℕ → List Suppression
+refusal_of c zone o object event number a told k =
     elim (slice_get c.contacts k) as (λ _. List Suppression) [
       | None ↦ []
-      | Some contact ↦ elim (contact_failing c zone (rights_for object contact) a)
+      | Some contact ↦ elim (contact_failing c zone (rights_for object contact) a told)
           as (λ _. List Suppression) [
             | None ↦ []
             | Some why ↦ record {
@@ -89,17 +69,17 @@ refusal_of c zone o object event number a k =
 -- the notices of an outcome for lane l, one for each receiver that gets it there
 abbrev pub notices : Config → Zone → ℕ → Object → (l event : ℕ) → Outcome → List Notice
 notices c zone o object l event Nothing = []
-notices c zone o object l event (Sent k state number moment gap) =
-    (λ (a : Attempt). flat_map (notice_to c zone o object l event number a)
-    (receivers c zone o object a number)) (record { kind = k; state = state; moment = moment })
+notices c zone o object l event (Sent k state number moment gap reach) =
+    (λ (a : Attempt). flat_map (notice_to c zone o object l event number a reach.told)
+    (receivers c zone o object a number reach.standing)) (record { kind = k; state = state; moment = moment })
 notices c zone o object l event (Suppressed k state number moment why) = []
 
 -- the suppressions of an outcome: the object's, or one for each receiver that is refused
 abbrev pub suppressions : Config → Zone → ℕ → Object → (event : ℕ) → Outcome → List Suppression
 suppressions c zone o object event Nothing = []
-suppressions c zone o object event (Sent k state number moment gap) =
-    (λ (a : Attempt). flat_map (refusal_of c zone o object event number a)
-    (receivers c zone o object a number)) (record { kind = k; state = state; moment = moment })
+suppressions c zone o object event (Sent k state number moment gap reach) =
+    (λ (a : Attempt). flat_map (refusal_of c zone o object event number a reach.told)
+    (receivers c zone o object a number reach.standing)) (record { kind = k; state = state; moment = moment })
 suppressions c zone o object event (Suppressed k state number moment why) =
     record {
       event = event;

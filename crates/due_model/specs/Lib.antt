@@ -5,9 +5,12 @@ pub mod Days
 pub mod Periods
 pub mod Readings
 pub mod Rules
+pub mod Changes
 pub mod Acknowledgements
 pub mod Escalations
 pub mod Dependencies
+pub mod Receivers
+pub mod Choices
 pub mod Histories
 pub mod Due
 pub mod Accepted

@@ -4,7 +4,7 @@ use Rattle.due_model.specs.declared.config.Config.{Config}
 use Rattle.due_model.specs.declared.config.Object.{Object}
 use Rattle.due_model.specs.declared.event.Event.{Event}
 use Rattle.due_model.specs.declared.event.EventKind.{EventKind}
-use Rattle.due_model.specs.declared.event.EventKind.TheVariants.{Clock, Program, Hard, Downtime, Flapping, Ack}
+use Rattle.due_model.specs.declared.event.EventKind.TheVariants.{Clock, Program, Hard, Downtime, Flapping, Ack, AckRemoved, OwnSwitch}
 use Rattle.due_model.specs.declared.state.State.{State}
 use Rattle.due_model.specs.declared.state.State.TheVariants.{Pending, Up, Down, Unreachable, Fine, Warning, Unknown, Critical}
 use Rattle.due_model.specs.Accepted.{HasObject}
@@ -30,7 +30,9 @@ KindIsProper c (Hard o state) =
     × IsTrue (is_state_of (is_some object.host) state)
 KindIsProper c (Downtime o change) = HasObject c o.0
 KindIsProper c (Flapping o starts) = HasObject c o.0
-KindIsProper c (Ack o sticky) = HasObject c o.0
+KindIsProper c (Ack o ack) = HasObject c o.0
+KindIsProper c (AckRemoved o) = HasObject c o.0
+KindIsProper c (OwnSwitch o on) = HasObject c o.0
 
 -- Proper: what the feed gives
 pub record IsProper (c : Config) (e : Event) : Type 0 where

@@ -1,8 +1,8 @@
 -- What the events so far say of an object. The past is the list of events, the newest first; event 0 is the last.
-use Rattle.std.specs.Prelude.{ℕ, ◌+◌, ◌-◌, max, Bool, true, false, not, ◌&&◌, List, [], ◌∷◌, nat_lt, ◌==◌, if◌then◌else◌}
+use Rattle.std.specs.Prelude.{ℕ, ◌+◌, ◌-◌, max, Bool, true, false, not, ◌&&◌, List, [], ◌∷◌, nat_lt, ◌==◌, Option, None, Some, if◌then◌else◌}
 use Rattle.due_model.specs.declared.event.Event.{Event}
 use Rattle.due_model.specs.declared.event.EventKind.{EventKind}
-use Rattle.due_model.specs.declared.event.EventKind.TheVariants.{Clock, Program, Hard, Downtime, Flapping, Ack}
+use Rattle.due_model.specs.declared.event.EventKind.TheVariants.{Clock, Program, Hard, Downtime, Flapping, Ack, AckRemoved, OwnSwitch}
 use Rattle.due_model.specs.declared.event.DowntimeChange.{DowntimeChange}
 use Rattle.due_model.specs.declared.event.DowntimeChange.TheVariants.{Start, End, Cancelled}
 use Rattle.due_model.specs.declared.state.State.{State}
@@ -42,7 +42,9 @@ switch_after (Program now) on = now
 switch_after (Hard p s) on = on
 switch_after (Downtime p change) on = on
 switch_after (Flapping p starts) on = on
-switch_after (Ack p sticky) on = on
+switch_after (Ack p ack) on = on
+switch_after (AckRemoved p) on = on
+switch_after (OwnSwitch p own) on = on
 
 -- whether the last program switch event is no DISABLE; the switch is on at first
 abbrev pub program_on : List Event → Bool
@@ -56,7 +58,9 @@ hard_after o (Program now) state = state
 hard_after o (Hard p s) state = if p.0 == o then s else state
 hard_after o (Downtime p change) state = state
 hard_after o (Flapping p starts) state = state
-hard_after o (Ack p sticky) state = state
+hard_after o (Ack p ack) state = state
+hard_after o (AckRemoved p) state = state
+hard_after o (OwnSwitch p on) state = state
 
 -- Hard: the state of the object's last hard event; pending, if there is none (chapter "State Types")
 abbrev pub hard : ℕ → List Event → State
@@ -75,7 +79,9 @@ depth_after o (Program now) depth = depth
 depth_after o (Hard p s) depth = depth
 depth_after o (Downtime p change) depth = if p.0 == o then depth_changed change depth else depth
 depth_after o (Flapping p starts) depth = depth
-depth_after o (Ack p sticky) depth = depth
+depth_after o (Ack p ack) depth = depth
+depth_after o (AckRemoved p) depth = depth
+depth_after o (OwnSwitch p on) depth = depth
 
 -- how many downtimes of the object run (chapter "Scheduled Downtime")
 abbrev pub depth : ℕ → List Event → ℕ
@@ -92,7 +98,9 @@ flapping_after o (Program now) flapping = flapping
 flapping_after o (Hard p s) flapping = flapping
 flapping_after o (Downtime p change) flapping = flapping
 flapping_after o (Flapping p starts) flapping = if p.0 == o then starts else flapping
-flapping_after o (Ack p sticky) flapping = flapping
+flapping_after o (Ack p ack) flapping = flapping
+flapping_after o (AckRemoved p) flapping = flapping
+flapping_after o (OwnSwitch p on) flapping = flapping
 
 -- Flap: whether the object's last flapping event is a start (chapter "State Flapping")
 abbrev pub flapping : ℕ → List Event → Bool
@@ -106,7 +114,31 @@ is_problem_of o (Program now) = false
 is_problem_of o (Hard p s) = p.0 == o && is_problem_state s
 is_problem_of o (Downtime p change) = false
 is_problem_of o (Flapping p starts) = false
-is_problem_of o (Ack p sticky) = false
+is_problem_of o (Ack p ack) = false
+is_problem_of o (AckRemoved p) = false
+is_problem_of o (OwnSwitch p on) = false
+
+-- whether an event gives object o a hard state
+abbrev pub is_hard_of : ℕ → EventKind → Bool
+is_hard_of o (Hard p s) = p.0 == o
+is_hard_of o k = false
+
+-- the object's own switch after an event, which was so before it; none, where nothing switched it (chapter "External
+-- Commands")
+abbrev pub switched_after : ℕ → EventKind → Option Bool → Option Bool
+switched_after o Clock own = own
+switched_after o (Program now) own = own
+switched_after o (Hard p s) own = own
+switched_after o (Downtime p change) own = own
+switched_after o (Flapping p starts) own = own
+switched_after o (Ack p ack) own = own
+switched_after o (AckRemoved p) own = own
+switched_after o (OwnSwitch p on) own = if p.0 == o then Some on else own
+
+-- what the last event that switches the object's notifications on or off says; none, where there is none
+abbrev pub switched : ℕ → List Event → Option Bool
+switched o [] = None
+switched o (e ∷ past) = switched_after o e.kind (switched o past)
 
 -- A problem begins with the first hard problem state after an OK or pending one (chapter "Notifications").
 abbrev pub begins : ℕ → Event → List Event → Bool

@@ -2,6 +2,7 @@
 use Rattle.std.specs.Prelude.{ℕ, ◌+◌, ◌*◌, Bool, true, false, not, ◌&&◌, ◌||◌, List, [], ◌∷◌, nat_lt, nat_le, ◌==◌, Option, Some, None, if◌then◌else◌}
 use Rattle.due_model.specs.declared.event.EventKind.{EventKind}
 use Rattle.due_model.specs.declared.event.EventKind.TheVariants as event
+use Rattle.due_model.specs.declared.event.Acknowledgement.{Acknowledgement}
 use Rattle.due_model.specs.declared.event.DowntimeChange.{DowntimeChange}
 use Rattle.due_model.specs.declared.event.DowntimeChange.TheVariants as change
 use Rattle.due_model.specs.declared.state.State.{State}
@@ -52,6 +53,11 @@ abbrev pub attempted_by_flapping : (flapping starts : Bool) → Option Kind
 attempted_by_flapping flapping true = if flapping then None else Some kind.FlappingStart
 attempted_by_flapping flapping false = if flapping then Some kind.FlappingStop else None
 
+-- an acknowledgement is notified of where that is asked for; only a problem is acknowledged
+abbrev pub attempted_by_ack : State → Acknowledgement → Option Kind
+attempted_by_ack state ack =
+    if is_problem_state state && ack.notify then Some kind.Acknowledgement else None
+
 -- What an event attempts on object o, of which this was the status before it, and that the ready moment, at moment t
 -- (chapter "Notifications", "When Do Notifications Occur?"). The clock attempts a problem again once its ready
 -- moment has come.
@@ -65,7 +71,10 @@ attempted o (event.Downtime p change) old ready t =
     if p.0 == o then attempted_by_downtime old.depth change else None
 attempted o (event.Flapping p starts) old ready t =
     if p.0 == o then attempted_by_flapping old.flapping starts else None
-attempted o (event.Ack p sticky) old ready t = None
+attempted o (event.Ack p ack) old ready t =
+    if p.0 == o then attempted_by_ack old.state ack else None
+attempted o (event.AckRemoved p) old ready t = None
+attempted o (event.OwnSwitch p on) old ready t = None
 
 -- the letter of a state (chapter "Object Definitions", `notification_options`)
 abbrev pub state_letter : State → OptionLetter
@@ -78,7 +87,7 @@ state_letter state.Warning = letter.Warning
 state_letter state.Unknown = letter.Unknown
 state_letter state.Critical = letter.Critical
 
--- the letter of a notification: that of the state for a problem, else that of its kind
+-- the letter of a notification: that of the state for a problem and its acknowledgement, else that of its kind
 abbrev pub letter_of : Kind → State → OptionLetter
 letter_of kind.Problem s = state_letter s
 letter_of kind.Recovery s = letter.Recovery
@@ -87,6 +96,7 @@ letter_of kind.FlappingStop s = letter.Flapping
 letter_of kind.DowntimeStart s = letter.Downtime
 letter_of kind.DowntimeEnd s = letter.Downtime
 letter_of kind.DowntimeCancelled s = letter.Downtime
+letter_of kind.Acknowledgement s = state_letter s
 
 -- whether a letter is in a set
 abbrev pub has_letter : OptionLetters → OptionLetter → Bool
@@ -98,6 +108,42 @@ has_letter set letter.Critical = set.critical
 has_letter set letter.Recovery = set.recovery
 has_letter set letter.Flapping = set.flapping
 has_letter set letter.Downtime = set.downtime
+
+-- the set of no letter
+abbrev pub no_letter : OptionLetters
+no_letter = record {
+  down = false;
+  unreachable = false;
+  warning = false;
+  unknown = false;
+  critical = false;
+  recovery = false;
+  flapping = false;
+  downtime = false;
+}
+
+-- a set with a letter
+abbrev pub with_letter : OptionLetter → OptionLetters → OptionLetters
+with_letter letter.Down set = record set { down = true }
+with_letter letter.Unreachable set = record set { unreachable = true }
+with_letter letter.Warning set = record set { warning = true }
+with_letter letter.Unknown set = record set { unknown = true }
+with_letter letter.Critical set = record set { critical = true }
+with_letter letter.Recovery set = record set { recovery = true }
+with_letter letter.Flapping set = record set { flapping = true }
+with_letter letter.Downtime set = record set { downtime = true }
+
+-- whether two sets have a letter in common
+abbrev pub meets : OptionLetters → OptionLetters → Bool
+meets a b =
+    a.down && b.down || a.unreachable && b.unreachable || a.warning && b.warning
+    || a.unknown && b.unknown || a.critical && b.critical || a.recovery && b.recovery
+    || a.flapping && b.flapping || a.downtime && b.downtime
+
+-- whether none of these letters is told to who has those options; where there is none, everybody is told
+abbrev pub is_untold : Option OptionLetters → OptionLetters → Bool
+is_untold None options = false
+is_untold (Some told) options = not (meets told options)
 
 -- a number for each state
 abbrev pub state_number : State → ℕ
@@ -123,6 +169,7 @@ is_problem kind.FlappingStop = false
 is_problem kind.DowntimeStart = false
 is_problem kind.DowntimeEnd = false
 is_problem kind.DowntimeCancelled = false
+is_problem kind.Acknowledgement = false
 
 abbrev pub is_recovery : Kind → Bool
 is_recovery kind.Problem = false
@@ -132,15 +179,29 @@ is_recovery kind.FlappingStop = false
 is_recovery kind.DowntimeStart = false
 is_recovery kind.DowntimeEnd = false
 is_recovery kind.DowntimeCancelled = false
+is_recovery kind.Acknowledgement = false
 
-abbrev pub is_of_downtime : Kind → Bool
-is_of_downtime kind.Problem = false
-is_of_downtime kind.Recovery = false
-is_of_downtime kind.FlappingStart = false
-is_of_downtime kind.FlappingStop = false
-is_of_downtime kind.DowntimeStart = true
-is_of_downtime kind.DowntimeEnd = true
-is_of_downtime kind.DowntimeCancelled = true
+-- what is told in a downtime too: downtimes themselves, and acknowledgements
+abbrev pub is_told_in_downtime : Kind → Bool
+is_told_in_downtime kind.Problem = false
+is_told_in_downtime kind.Recovery = false
+is_told_in_downtime kind.FlappingStart = false
+is_told_in_downtime kind.FlappingStop = false
+is_told_in_downtime kind.DowntimeStart = true
+is_told_in_downtime kind.DowntimeEnd = true
+is_told_in_downtime kind.DowntimeCancelled = true
+is_told_in_downtime kind.Acknowledgement = true
+
+-- of what the object's options are asked: of all but acknowledgements
+abbrev pub asks_options : Kind → Bool
+asks_options kind.Problem = true
+asks_options kind.Recovery = true
+asks_options kind.FlappingStart = true
+asks_options kind.FlappingStop = true
+asks_options kind.DowntimeStart = true
+asks_options kind.DowntimeEnd = true
+asks_options kind.DowntimeCancelled = true
+asks_options kind.Acknowledgement = false
 
 -- a problem, or the recovery from one
 abbrev pub is_of_problem : Kind → Bool
@@ -161,15 +222,18 @@ abbrev pub first_failing : List (Bool × Filter) → Option Filter
 first_failing [] = None
 first_failing (test ∷ tests) = if test.0 then Some test.1 else first_failing tests
 
--- The first of an object's filters that fails, in their order (chapter "Notifications", "What Filters Must
--- Be Passed In Order For Notifications To Be Sent?").
-abbrev pub failing : Config → Zone → View → Attempt → Option Filter
-failing c zone v a = first_failing (
+-- an object's filters in their order, each with the test that it fails (chapter "Notifications", "What Filters Must
+-- Be Passed In Order For Notifications To Be Sent?")
+abbrev pub in_own_order : Config → Zone → View → Attempt → List (Bool × Filter)
+in_own_order c zone v a =
     (not v.program, filter.Program)
     ∷ (not v.enabled, filter.Disabled)
-    ∷ (not (is_of_downtime a.kind) && v.down, filter.Downtime)
+    ∷ (not (is_told_in_downtime a.kind) && v.down, filter.Downtime)
     ∷ (is_of_problem a.kind && v.flapping, filter.Flapping)
-    ∷ (not (has_letter v.options (letter_of a.kind a.state)), filter.Options)
+    ∷ (
+      asks_options a.kind && not (has_letter v.options (letter_of a.kind a.state)),
+      filter.Options,
+    )
     ∷ (is_recovery a.kind && v.sent == 0, filter.NoProblem)
     ∷ (not (in_period c zone v.period a.moment), filter.Period)
     ∷ (is_of_problem a.kind && v.depends, filter.Dependency)
@@ -179,13 +243,77 @@ failing c zone v a = first_failing (
           && nat_lt a.moment (v.began + 60 * v.delay),
       filter.FirstDelay,
     )
-    ∷ (is_problem a.kind && is_too_soon v.last a.state a.moment, filter.Interval)
-    ∷ [])
+    ∷ (
+      is_problem a.kind && not v.renews && is_too_soon v.last a.state a.moment,
+      filter.Interval,
+    )
+    ∷ (is_of_problem a.kind && v.host_problem, filter.HostDown)
+    ∷ []
 
--- The first of a contact's filters that fails, in their order (the same chapter).
-abbrev pub contact_failing : Config → Zone → Rights → Attempt → Option Filter
-contact_failing c zone rights a = first_failing (
+-- the same in the order in which the daemon asks them
+abbrev pub in_daemons_order : Config → Zone → View → Attempt → List (Bool × Filter)
+in_daemons_order c zone v a =
+    (not v.program, filter.Program)
+    ∷ (not (in_period c zone v.period a.moment), filter.Period)
+    ∷ (not v.enabled, filter.Disabled)
+    ∷ (is_problem a.kind && v.acknowledged, filter.Acknowledged)
+    ∷ (is_of_problem a.kind && v.depends, filter.Dependency)
+    ∷ (
+      asks_options a.kind && not (has_letter v.options (letter_of a.kind a.state)),
+      filter.Options,
+    )
+    ∷ (is_recovery a.kind && v.sent == 0, filter.NoProblem)
+    ∷ (
+      is_problem a.kind && v.sent == 0
+          && nat_lt a.moment (v.began + 60 * v.delay),
+      filter.FirstDelay,
+    )
+    ∷ (is_of_problem a.kind && v.flapping, filter.Flapping)
+    ∷ (not (is_told_in_downtime a.kind) && v.down, filter.Downtime)
+    ∷ (
+      is_problem a.kind && not v.renews && is_too_soon v.last a.state a.moment,
+      filter.Interval,
+    )
+    ∷ (is_of_problem a.kind && v.host_problem, filter.HostDown)
+    ∷ []
+
+-- the first of an object's filters that fails, in the daemon's order or in this one
+abbrev pub failing_by : (daemons : Bool) → Config → Zone → View → Attempt → Option Filter
+failing_by daemons c zone v a =
+    if daemons then first_failing (in_daemons_order c zone v a)
+    else first_failing (in_own_order c zone v a)
+
+-- the first of an object's filters that fails, by the order that is chosen
+abbrev pub failing : Config → Zone → View → Attempt → Option Filter
+failing c zone v a = failing_by c.choices.order c zone v a
+
+-- a contact's filters in their order (the same chapter)
+abbrev pub in_own_contact_order : Config → Zone → Rights → Attempt → (told : Option OptionLetters)
+    → List (Bool × Filter)
+in_own_contact_order c zone rights a told =
     (not rights.enabled, filter.ContactDisabled)
     ∷ (not (has_letter rights.options (letter_of a.kind a.state)), filter.ContactOptions)
     ∷ (not (in_period c zone rights.period a.moment), filter.ContactPeriod)
-    ∷ [])
+    ∷ (is_untold told rights.options, filter.ContactNotTold)
+    ∷ []
+
+-- and in the daemon's
+abbrev pub in_daemons_contact_order : Config → Zone → Rights → Attempt
+    → (told : Option OptionLetters) → List (Bool × Filter)
+in_daemons_contact_order c zone rights a told =
+    (not rights.enabled, filter.ContactDisabled)
+    ∷ (not (in_period c zone rights.period a.moment), filter.ContactPeriod)
+    ∷ (not (has_letter rights.options (letter_of a.kind a.state)), filter.ContactOptions)
+    ∷ (is_untold told rights.options, filter.ContactNotTold)
+    ∷ []
+
+abbrev pub contact_failing_by : (daemons : Bool) → Config → Zone → Rights → Attempt
+    → (told : Option OptionLetters) → Option Filter
+contact_failing_by daemons c zone rights a told =
+    if daemons then first_failing (in_daemons_contact_order c zone rights a told)
+    else first_failing (in_own_contact_order c zone rights a told)
+
+-- the first of a contact's filters that fails, by the order that is chosen
+abbrev pub contact_failing : Config → Zone → Rights → Attempt → (told : Option OptionLetters)
+    → Option Filter
+contact_failing c zone rights a told = contact_failing_by c.choices.order c zone rights a told

@@ -1,8 +1,10 @@
 //! A configuration: what the object text gives, in numbers.
 
 ghost use Rattle.std.specs.Prelude.{◌≡◌};
+ghost use Rattle.due_model.specs.Choices.{nagios, own};
 ghost use Rattle.due_model.specs.Due.{uses_lane};
 ghost use Rattle.due_model.specs.Escalations.{has_contact};
+ghost use Rattle.due_model.specs.Histories.{is_enabled};
 
 use crate::dependencies::Dependencies;
 use crate::escalations::Escalations;
@@ -48,11 +50,23 @@ pub struct Object {
     pub interval: u32,
     /// `first_notification_delay`, in units of 60 seconds: 0 to 1,000,000.
     pub delay: u32,
+    /// `is_volatile` of a service: each of its hard problem states is notified of, however soon.
+    pub volatile: bool,
     /// The contacts that are notified where no escalation matches.
     pub contacts: ContactList,
 }
 
 impl Object {
+    /// Whether the object's notifications are on: as its own switch says, if anything switched it.
+    pub fn is_enabled(&self, own: Option<bool>) -> bool
+        ensures { result ≡ is_enabled self.now own }
+    {
+        match own {
+            Some(on) => on,
+            None => self.enabled,
+        }
+    }
+
     /// Whether this contact is one of the object's own.
     pub fn has_contact(&self, contact: ContactId) -> bool
         ensures { result ≡ has_contact self.now.contacts contact.0 }
@@ -176,9 +190,111 @@ pub struct Dependency {
     pub period: Option<PeriodId>,
 }
 
+/// Whose rule decides where this project and the daemon of Nagios Core 4.4.6 differ, rule by rule: false is this
+/// project's, true the daemon's. Where a chapter of the manual speaks of the rule it is named; of the others no chapter
+/// speaks.
+#[derive(Clone, Copy, Debug, PartialEq, Eq)]
+pub struct Choices {
+    /// A service whose host isn't UP. Here it is told of as any other. The daemon tells of no problem and no recovery
+    /// of it, so a host that fails is one notice and not one for each of its services.
+    pub host_down: bool,
+    /// A service's result that is a problem in the state that it had, while its host isn't UP. Here it says nothing of the
+    /// host. The daemon attempts the problem of the host again with it.
+    pub host_repeats: bool,
+    /// The notification dependencies of a service's host. Here they hold back the host alone (chapter "Host and Service
+    /// Dependencies"). The daemon holds back the service by them too.
+    pub host_dep: bool,
+    /// A notice that every receiver's filters refuse. Here it counts: the next has the next number, and waits. By the
+    /// daemon it leaves number, wait and told states as they were.
+    pub nobody: bool,
+    /// A service's recovery. Here it goes to all that the last problem notice's number reaches. The daemon leaves out
+    /// who takes no state that was told in the problem.
+    pub told: bool,
+    /// A hard state that changes within a problem, and changes back. Here the wait after the last notice of that state
+    /// runs on (chapter "Notifications"). By the daemon each change ends it.
+    pub reset_wait: bool,
+    /// The first delay. Here it runs from where the problem began (chapter "Object Definitions",
+    /// `first_notification_delay`). By the daemon it runs anew from each change of the hard state.
+    pub delay: bool,
+    /// A dependency whose master is pending. Here it fails where its options have `p` (chapter "Host and Service
+    /// Dependencies"). By the daemon a pending master counts as one that is UP or OK, and `p` says nothing.
+    pub dep_pending: bool,
+    /// An attempt outside the object's period. Here the wait after the last notice runs on. The daemon sets its end to
+    /// the period's next moment (chapter "Notifications").
+    pub period_wait: bool,
+    /// An attempt that is stopped while a service of interval 0, or its host, is in downtime. Here the wait after the last
+    /// notice runs on. By the daemon it is over.
+    pub downtime_wait: bool,
+    /// Whom flapping and downtimes are told. Here it is the object's own contacts. The daemon matches escalations with the
+    /// number of the last problem notice.
+    pub esc_other: bool,
+    /// What attempts a problem again. Here the clock does, once its ready moment has come. The daemon attempts with
+    /// results of the object alone.
+    pub at_results: bool,
+    /// Which filter is named, where several fail. Here downtime and flapping are asked before the options and the period. The
+    /// daemon asks for the period first, and for flapping and downtime last.
+    pub order: bool,
+    /// A contact whose object text has no option list. Here it is told of everything. By the daemon it is told of nothing
+    /// (chapter "Object Definitions" asks for the list). Object text is read by it; nothing here asks for it again.
+    pub contact_none: bool,
+    /// Object text that Nagios reads and this project refuses by name: directives without a value, other spellings, volatile
+    /// services, ranges that end before they begin. By the daemon it is read as Nagios reads it.
+    pub text: bool,
+}
+
+impl Choices {
+    /// This project's rules: what is decided unless somebody asks for the daemon's.
+    pub fn own() -> Choices
+        ensures { result ≡ own }
+    {
+        Choices {
+            host_down: false,
+            host_repeats: false,
+            host_dep: false,
+            nobody: false,
+            told: false,
+            reset_wait: false,
+            delay: false,
+            dep_pending: false,
+            period_wait: false,
+            downtime_wait: false,
+            esc_other: false,
+            at_results: false,
+            order: false,
+            contact_none: false,
+            text: false,
+        }
+    }
+
+    /// The daemon's rules.
+    pub fn nagios() -> Choices
+        ensures { result ≡ nagios }
+    {
+        Choices {
+            host_down: true,
+            host_repeats: true,
+            host_dep: true,
+            nobody: true,
+            told: true,
+            reset_wait: true,
+            delay: true,
+            dep_pending: true,
+            period_wait: true,
+            downtime_wait: true,
+            esc_other: true,
+            at_results: true,
+            order: true,
+            contact_none: true,
+            text: true,
+        }
+    }
+}
+
 /// All that the object text gives.
 #[derive(Drop)]
 pub struct Config {
+    /// Whose rules decide.
+    pub choices: Choices,
     pub objects: Objects,
     pub contacts: Sequence<Contact>,
     pub lanes: Sequence<Lane>,

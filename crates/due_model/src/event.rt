@@ -24,9 +24,21 @@ pub enum EventKind {
     Downtime(ObjectId, DowntimeChange),
     /// An object starts (`true`) or stops flapping (chapter "State Flapping").
     Flapping(ObjectId, bool),
-    /// Somebody acknowledges the problem of an object (chapter "External Commands"): until it recovers
-    /// (`true`, sticky), or until its state changes.
-    Ack(ObjectId, bool),
+    /// Somebody acknowledges the problem of an object (chapter "External Commands").
+    Ack(ObjectId, Acknowledgement),
+    /// Somebody takes the acknowledgement of an object's problem back (chapter "External Commands").
+    AckRemoved(ObjectId),
+    /// The notifications of one object are switched on or off (chapter "External Commands").
+    OwnSwitch(ObjectId, bool),
+}
+
+/// How a problem is acknowledged.
+#[derive(Clone, Copy, Debug, PartialEq, Eq)]
+pub struct Acknowledgement {
+    /// Whether it lasts until the object recovers (`true`, sticky), or until its state changes.
+    pub sticky: bool,
+    /// Whether contacts are notified of it.
+    pub notify: bool,
 }
 
 /// What happens to a scheduled downtime.

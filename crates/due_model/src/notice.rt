@@ -1,6 +1,7 @@
 //! What the rules make of an event: notices, and suppressions, each with the filter that caused it.
 
 use crate::config::{ContactId, LaneId, ObjectId};
+use crate::options::OptionLetters;
 use crate::state::State;
 
 /// The kinds of notification (chapter "Notifications", "Notification Type Macro").
@@ -13,6 +14,7 @@ pub enum Kind {
     DowntimeStart,
     DowntimeEnd,
     DowntimeCancelled,
+    Acknowledgement,
 }
 
 /// What stops a notification, in the order in which the filters are tried.
@@ -40,12 +42,16 @@ pub enum Filter {
     FirstDelay,
     /// The interval since the last notice of the same state hasn't passed.
     Interval,
+    /// The host of a service isn't UP.
+    HostDown,
     /// The contact's notifications for this kind of object are off.
     ContactDisabled,
     /// The letter isn't among the contact's options.
     ContactOptions,
     /// The moment isn't in the contact's period.
     ContactPeriod,
+    /// No state was told in the problem of which the contact is notified.
+    ContactNotTold,
 }
 
 /// A message that is due: one contact is to get it on one lane.
@@ -83,6 +89,17 @@ pub struct Suppression {
     pub contact: Option<ContactId>,
 }
 
+/// How far a notice reaches, by what was told before it.
+#[derive(Clone, Copy, Debug, PartialEq, Eq)]
+pub struct Reach {
+    /// Whether it counts.
+    pub heard: bool,
+    /// The letters of the states told in the problem, where only who takes one of them is notified.
+    pub told: Option<OptionLetters>,
+    /// How many notices of the problem went out before it.
+    pub standing: u64,
+}
+
 /// What becomes of one object at one event.
 #[derive(Clone, Copy, Debug, PartialEq, Eq)]
 pub enum Outcome {
@@ -96,6 +113,7 @@ pub enum Outcome {
         number: u64,
         moment: u64,
         gap: u64,
+        reach: Reach,
     },
     /// A filter of the object stops it.
     Suppressed {

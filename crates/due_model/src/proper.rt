@@ -44,7 +44,9 @@ fn kind_is_proper(config: &Config, kind: EventKind) -> bool
         }
         EventKind::Downtime(object, _)
         | EventKind::Flapping(object, _)
-        | EventKind::Ack(object, _) => has_object(config, object),
+        | EventKind::Ack(object, _)
+        | EventKind::AckRemoved(object)
+        | EventKind::OwnSwitch(object, _) => has_object(config, object),
     }
 }
 

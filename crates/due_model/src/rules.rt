@@ -2,17 +2,17 @@
 
 ghost use Rattle.std.specs.Prelude.{◌≡◌, ◌+◌, ◌^◌, ◌<◌, Some, IfSome};
 ghost use Rattle.due_model.specs.Readings.{is_ok_state, is_problem_state, switch_after, hard_after};
-ghost use Rattle.due_model.specs.Readings.{depth_changed, is_problem_of};
-ghost use Rattle.due_model.specs.Acknowledgements.{ack_after, kept_in_state};
-ghost use Rattle.due_model.specs.Rules.{attempted, attempted_by_state, attempted_by_downtime};
+ghost use Rattle.due_model.specs.Readings.{depth_changed, is_hard_of, is_problem_of, switched_after};
+ghost use Rattle.due_model.specs.Acknowledgements.{ack_after, is_removal_of, kept_in_state};
+ghost use Rattle.due_model.specs.Rules.{asks_options, attempted, attempted_by_ack, attempted_by_state, attempted_by_downtime};
 ghost use Rattle.due_model.specs.Rules.{attempted_by_flapping, downtime_kind, has_come, state_letter};
-ghost use Rattle.due_model.specs.Rules.{letter_of, has_letter, is_too_soon, next_notice, same_state};
-ghost use Rattle.due_model.specs.Rules.{is_problem, is_recovery, is_of_problem, is_of_downtime};
-ghost use Rattle.due_model.specs.Dependencies.{has_state};
+ghost use Rattle.due_model.specs.Rules.{letter_of, has_letter, meets, with_letter, is_too_soon, next_notice, same_state};
+ghost use Rattle.due_model.specs.Rules.{is_problem, is_recovery, is_of_problem, is_told_in_downtime};
+ghost use Rattle.due_model.specs.Dependencies.{counted, fails_at, has_state};
 ghost use Rattle.due_model.specs.Histories.{number_after};
 
 use crate::config::{ObjectId, PeriodId};
-use crate::event::{DowntimeChange, EventKind};
+use crate::event::{Acknowledgement, DowntimeChange, EventKind};
 use crate::notice::Kind;
 use crate::options::{OptionLetter, OptionLetters};
 use crate::state::{State, StateSet};
@@ -63,6 +63,25 @@ impl StateSet {
             State::Critical => self.critical,
         }
     }
+
+    /// Whether a dependency with these states fails by the hard state of its master. By the daemon's rule a pending
+    /// master counts as one that is UP or OK.
+    pub fn fails_at(&self, daemons: bool, state: State) -> bool
+        ensures { result ≡ fails_at daemons self.now state }
+    {
+        self.counted(daemons).contains(state)
+    }
+
+    /// The states by which a dependency with these fails: by the daemon's rule, pending where UP or OK is among them.
+    fn counted(self, daemons: bool) -> StateSet
+        ensures { result ≡ counted daemons self }
+    {
+        let mut states = self;
+        if daemons {
+            states.pending = self.up || self.fine;
+        }
+        states
+    }
 }
 
 impl OptionLetters {
@@ -83,6 +102,52 @@ impl OptionLetters {
     }
 }
 
+impl OptionLetters {
+    /// The set of no letter.
+    pub const NONE: OptionLetters = OptionLetters {
+        down: false,
+        unreachable: false,
+        warning: false,
+        unknown: false,
+        critical: false,
+        recovery: false,
+        flapping: false,
+        downtime: false,
+    };
+
+    /// Whether this set and another have a letter in common.
+    pub fn meets(self, other: OptionLetters) -> bool
+        ensures { result ≡ meets self other }
+    {
+        (self.down && other.down)
+            || (self.unreachable && other.unreachable)
+            || (self.warning && other.warning)
+            || (self.unknown && other.unknown)
+            || (self.critical && other.critical)
+            || (self.recovery && other.recovery)
+            || (self.flapping && other.flapping)
+            || (self.downtime && other.downtime)
+    }
+
+    /// The set with a letter.
+    pub fn with(self, letter: OptionLetter) -> OptionLetters
+        ensures { result ≡ with_letter letter self }
+    {
+        let mut set = self;
+        match letter {
+            OptionLetter::Down => set.down = true,
+            OptionLetter::Unreachable => set.unreachable = true,
+            OptionLetter::Warning => set.warning = true,
+            OptionLetter::Unknown => set.unknown = true,
+            OptionLetter::Critical => set.critical = true,
+            OptionLetter::Recovery => set.recovery = true,
+            OptionLetter::Flapping => set.flapping = true,
+            OptionLetter::Downtime => set.downtime = true,
+        }
+        set
+    }
+}
+
 impl Kind {
     /// The letter of a notification of this kind, about an object in this state (chapter "Object
     /// Definitions", `notification_options`).
@@ -90,7 +155,7 @@ impl Kind {
         ensures { result ≡ letter_of self state }
     {
         match self {
-            Kind::Problem => state.letter(),
+            Kind::Problem | Kind::Acknowledgement => state.letter(),
             Kind::Recovery => OptionLetter::Recovery,
             Kind::FlappingStart | Kind::FlappingStop => OptionLetter::Flapping,
             Kind::DowntimeStart | Kind::DowntimeEnd | Kind::DowntimeCancelled =>
@@ -119,14 +184,24 @@ impl Kind {
         matches!(self, Kind::Problem | Kind::Recovery)
     }
 
-    /// Whether this notification is about a downtime.
-    pub fn is_of_downtime(self) -> bool
-        ensures { result ≡ is_of_downtime self }
+    /// Whether this notification goes out in a downtime too: it is about a downtime, or an acknowledgement.
+    pub fn is_told_in_downtime(self) -> bool
+        ensures { result ≡ is_told_in_downtime self }
     {
         matches!(
             self,
-            Kind::DowntimeStart | Kind::DowntimeCancelled | Kind::DowntimeEnd
+            Kind::DowntimeStart
+                | Kind::DowntimeCancelled
+                | Kind::DowntimeEnd
+                | Kind::Acknowledgement
         )
+    }
+
+    /// Whether the object's options are asked for the letter of this notification: of all but an acknowledgement.
+    pub fn asks_options(self) -> bool
+        ensures { result ≡ asks_options self }
+    {
+        !matches!(self, Kind::Acknowledgement)
     }
 
     /// The number of a notification of this kind in its problem, of which so many problem notices went out
@@ -187,14 +262,46 @@ impl EventKind {
                     kept
                 }
             }
-            EventKind::Ack(named, sticky) => {
+            EventKind::Ack(named, ack) => {
                 if named.0 == object.0 && state.is_problem() {
-                    Some(sticky)
+                    Some(ack.sticky)
                 } else {
                     kept
                 }
             }
+            EventKind::AckRemoved(named) => { if named.0 == object.0 { None } else { kept } }
             _ => kept,
+        }
+    }
+
+    /// The object's own switch after this event, which was so before it; none, where nothing switched it (chapter
+    /// "External Commands").
+    pub fn switched_after(self, object: ObjectId, own: Option<bool>) -> Option<bool>
+        ensures { result ≡ switched_after object.0 self own }
+    {
+        match self {
+            EventKind::OwnSwitch(named, on) => { if named.0 == object.0 { Some(on) } else { own } }
+            _ => own,
+        }
+    }
+
+    /// Whether this event gives the object a hard state.
+    pub fn is_hard_of(self, object: ObjectId) -> bool
+        ensures { result ≡ is_hard_of object.0 self }
+    {
+        match self {
+            EventKind::Hard(named, _) => named.0 == object.0,
+            _ => false,
+        }
+    }
+
+    /// Whether this event takes back an acknowledgement of the object.
+    pub fn is_removal_of(self, object: ObjectId) -> bool
+        ensures { result ≡ is_removal_of object.0 self }
+    {
+        match self {
+            EventKind::AckRemoved(named) => named.0 == object.0,
+            _ => false,
         }
     }
 }
@@ -251,6 +358,8 @@ pub struct ObjectStatus {
     pub flapping: bool,
     /// How the running problem is acknowledged: sticky (`true`) or not; none where it isn't.
     pub acknowledged: Option<bool>,
+    /// The object's own switch; none, where nothing switched it.
+    pub switched: Option<bool>,
 }
 
 /// What a hard state attempts on an object that was in state `old`.
@@ -290,6 +399,17 @@ pub fn attempted_by_flapping(flapping: bool, starts: bool) -> Option<Kind>
         (true, false) => Some(Kind::FlappingStart),
         (false, true) => Some(Kind::FlappingStop),
         _ => None,
+    }
+}
+
+/// What an acknowledgement attempts on an object in this hard state: only a problem is acknowledged.
+pub fn attempted_by_ack(state: State, ack: Acknowledgement) -> Option<Kind>
+    ensures { result ≡ attempted_by_ack state ack }
+{
+    if state.is_problem() && ack.notify {
+        Some(Kind::Acknowledgement)
+    } else {
+        None
     }
 }
 
@@ -335,7 +455,14 @@ pub fn attempted(
                 None
             }
         }
-        EventKind::Ack(_, _) => None,
+        EventKind::Ack(named, ack) => {
+            if named.0 == object.0 {
+                attempted_by_ack(old.state, ack)
+            } else {
+                None
+            }
+        }
+        EventKind::AckRemoved(_) | EventKind::OwnSwitch(_, _) => None,
     }
 }
 
@@ -365,7 +492,7 @@ pub struct Attempt {
 pub struct View {
     /// Whether the program switch is on.
     pub program: bool,
-    /// `notifications_enabled`.
+    /// Whether the object's notifications are on.
     pub enabled: bool,
     /// Whether the object, or a service's host, is in downtime.
     pub down: bool,
@@ -380,12 +507,18 @@ pub struct View {
     pub depends: bool,
     /// Whether the problem is acknowledged.
     pub acknowledged: bool,
-    /// When this problem began, in seconds since the epoch.
+    /// Since when the first delay runs, in seconds since the epoch.
     pub began: u64,
     /// `first_notification_delay`, in units of 60 seconds.
     pub delay: u32,
-    /// The last problem notice of this problem.
+    /// The last problem notice of this problem, if its wait wasn't ended.
     pub last: Option<Last>,
+    /// Whether this is a hard state of a volatile service.
+    pub renews: bool,
+    /// The letters of the states that were told in this problem.
+    pub told: OptionLetters,
+    /// Whether the host of a service isn't UP, where that holds notices back.
+    pub host_problem: bool,
 }
 
 /// Whether a problem notice of this state comes too soon at moment `t`: the last one reported the same

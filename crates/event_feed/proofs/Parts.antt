@@ -1,5 +1,5 @@
 -- The parts of a list between the elements that pass a test, and the number that the digits at its front write.
-use Rattle.std.proofs.Common.{◌≡◌, ℕ, suc, ◌+◌, ◌-◌, ◌*◌, ◌^◌, ◌<◌, ◌≤◌, Bool, true, false, not, cond, eqb, leb, min, List, [], ◌∷◌, length, length-take-le, map, take, drop, get_or, Err, Option, refl, sym, ap, ◌∙◌, ⊎_elim, arith}
+use Rattle.std.proofs.Common.{◌≡◌, ℕ, suc, ◌+◌, ◌-◌, ◌*◌, ◌^◌, ◌<◌, ◌≤◌, Bool, true, false, not, cond, eqb, leb, min, List, [], ◌∷◌, length, length-take-le, map, take, drop, get_or, Err, refl, sym, ap, ◌∙◌, ⊎_elim, arith}
 use Rattle.std.specs.Char.{is_ascii_digit}
 use Rattle.std.specs.List.{slice_split, onto_first, position_or_len, prefix_len, take_while}
 use Rattle.std.proofs.lemmas.Bool.{and_parts, cases_lt, leb-true}
@@ -11,10 +11,7 @@ use Rattle.std.proofs.lemmas.Int.Digits.{number_push}
 use Rattle.lemmas.proofs.Lists.{slice_split-first}
 use Rattle.due_model.specs.declared.event.EventKind.{EventKind}
 use Rattle.event_feed.specs.declared.fault.FeedFault.TheVariants.{BadState}
-use Rattle.event_feed.specs.declared.line.Subject.{Subject}
-use Rattle.event_feed.specs.declared.line.Words.{Words}
-use Rattle.event_feed.specs.Line.{fields, bare_reading, last_reading, digits_number}
-use Rattle.due_model.specs.declared.config.Object.{Object}
+use Rattle.event_feed.specs.Line.{fields, bare_reading, digits_number}
 use Rattle.due_model.specs.Limits.{last_moment}
 
 -- where nothing passes, the list is the one part
@@ -28,9 +25,6 @@ slice_split-whole p (x ∷ xs) none =
 
 pub bare_reading-fields : (kind : EventKind) (rest : List ℕ) → bare_reading kind (fields rest) ≡ Err BadState
 bare_reading-fields kind rest = let split = slice_split-first (λ byte. eqb byte 59) rest in rw split.are refl
-
-pub last_reading-many : (objects : List Object) (words : Words) (subject : Subject) (host : List ℕ) (service : Option (List ℕ)) (word more : List ℕ) → last_reading objects words subject host service (word ∷ fields more) ≡ Err BadState
-last_reading-many objects words subject host service word more = let split = slice_split-first (λ byte. eqb byte 59) more in rw split.are refl
 
 -- one more digit
 pub digits_number-more : (digits : List ℕ) (at : ℕ) → at < length digits

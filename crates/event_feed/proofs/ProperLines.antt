@@ -4,7 +4,7 @@ use Rattle.std.specs.Prelude.{slice_get, is_some, codes}
 use Rattle.std.specs.Option.{option_map, ok_or}
 use Rattle.std.specs.List.{position, position_or_len}
 use Rattle.std.specs.Str.{bytes_eq, is_utf8}
-use Rattle.std.proofs.lemmas.Bool.{and_parts, leb-true, ltb-true, false≢true}
+use Rattle.std.proofs.lemmas.Bool.{and_parts, cond_both, leb-true, ltb-true, false≢true}
 use Rattle.std.proofs.lemmas.Option.{cond_some, slice_get_cases, slice_get_within}
 use Rattle.std.proofs.lemmas.List.Quantifiers.{position-Some}
 use Rattle.due_model.specs.Proper.{KindIsProper, is_state_of}
@@ -16,7 +16,7 @@ use Rattle.due_model.specs.declared.config.ObjectId.{ObjectId}
 use Rattle.due_model.specs.declared.event.DowntimeChange.TheVariants.{Start, End, Cancelled}
 use Rattle.due_model.specs.declared.event.Event.{Event}
 use Rattle.due_model.specs.declared.event.EventKind.{EventKind}
-use Rattle.due_model.specs.declared.event.EventKind.TheVariants.{Clock, Program, Hard, Downtime, Flapping, Ack}
+use Rattle.due_model.specs.declared.event.EventKind.TheVariants.{Clock, Program, Hard, Downtime, Flapping, Ack, AckRemoved, OwnSwitch}
 use Rattle.due_model.specs.declared.state.State.{State}
 use Rattle.due_model.specs.declared.state.State.TheVariants.{Up, Down, Unreachable, Fine, Warning, Unknown, Critical}
 use Rattle.text_lines.specs.LineReader.{line_limit}
@@ -27,9 +27,9 @@ use Rattle.event_feed.specs.declared.line.Command.TheVariants.{TellTime, Switch,
 use Rattle.event_feed.specs.declared.line.Subject.{Subject}
 use Rattle.event_feed.specs.declared.line.Subject.TheVariants.{Host, Service}
 use Rattle.event_feed.specs.declared.line.Words.{Words}
-use Rattle.event_feed.specs.declared.line.Words.TheVariants.{States, Downtimes, Flaps, Acks}
+use Rattle.event_feed.specs.declared.line.Words.TheVariants.{States, Downtimes, Flaps, Acks, Switches}
 use Rattle.event_feed.specs.Fault.{is_line_fault}
-use Rattle.event_feed.specs.Line.{stamp_of, digits_number, stamp_digits, is_stamp_shaped, command_of, fields, command_named, host_state_said, service_state_said, downtime_said, flapping_said, ack_said, said, said_reading, last_reading, object_reading, bare_reading, arguments_reading, command_reading, stamped, stamp_reading, line_reading}
+use Rattle.event_feed.specs.Line.{stamp_of, digits_number, stamp_digits, is_stamp_shaped, command_of, fields, command_named, host_state_said, service_state_said, downtime_said, flapping_said, ack_given, ack_said, told_ack_said, own_switch_said, said, said_more, all_said, are_so_many, said_reading, last_reading, object_reading, bare_reading, arguments_reading, command_reading, stamped, stamp_reading, line_reading}
 
 -- ---- the object
 
@@ -110,10 +110,23 @@ flapping-proper c id word there =
     or_else c (bytes_eq word (codes "START")) (Flapping id true) _ there
     (or_else c (bytes_eq word (codes "STOP")) (Flapping id false) None there tt)
 
+given_ack-proper : (c : Config) (id : ObjectId) (notify : Bool) (word : List ℕ) → id.0 < length c.objects → SaysProper c (ack_given id notify word)
+given_ack-proper c id notify word there =
+    or_else c (bytes_eq word (codes "STICKY")) (Ack id (record { sticky = true; notify = notify })) _ there
+    (or_else c (bytes_eq word (codes "NORMAL")) (Ack id (record { sticky = false; notify = notify })) None there tt)
+
 ack-proper : (c : Config) (id : ObjectId) (word : List ℕ) → id.0 < length c.objects → SaysProper c (ack_said id word)
 ack-proper c id word there =
-    or_else c (bytes_eq word (codes "STICKY")) (Ack id true) _ there
-    (or_else c (bytes_eq word (codes "NORMAL")) (Ack id false) None there tt)
+    or_else c (bytes_eq word (codes "NONE")) (AckRemoved id) _ there (given_ack-proper c id false word there)
+
+told_ack-proper : (c : Config) (id : ObjectId) (word more : List ℕ) → id.0 < length c.objects → SaysProper c (told_ack_said id word more)
+told_ack-proper c id word more there =
+    cond_both (bytes_eq more (codes "NOTIFY")) (ack_given id true word) None (SaysProper c) (λ _. given_ack-proper c id true word there) (λ _. tt)
+
+own_switch-proper : (c : Config) (id : ObjectId) (word : List ℕ) → id.0 < length c.objects → SaysProper c (own_switch_said id word)
+own_switch-proper c id word there =
+    or_else c (bytes_eq word (codes "ON")) (OwnSwitch id true) _ there
+    (or_else c (bytes_eq word (codes "OFF")) (OwnSwitch id false) None there tt)
 
 -- whether such objects are services
 abbrev is_service : Subject → Bool
@@ -126,6 +139,20 @@ said-proper c States Service id word at = service_state-proper c id word at
 said-proper c Downtimes subject id word at = downtime-proper c id word (slice_get_within c.objects id.0 at.object at.at)
 said-proper c Flaps subject id word at = flapping-proper c id word (slice_get_within c.objects id.0 at.object at.at)
 said-proper c Acks subject id word at = ack-proper c id word (slice_get_within c.objects id.0 at.object at.at)
+said-proper c Switches subject id word at = own_switch-proper c id word (slice_get_within c.objects id.0 at.object at.at)
+
+more-proper : (c : Config) (words : Words) (service : Bool) (id : ObjectId) (word more : List ℕ) → IsAt c.objects service id → SaysProper c (said_more words id word more)
+more-proper c States service id word more at = tt
+more-proper c Downtimes service id word more at = tt
+more-proper c Flaps service id word more at = tt
+more-proper c Acks service id word more at = told_ack-proper c id word more (slice_get_within c.objects id.0 at.object at.at)
+more-proper c Switches service id word more at = tt
+
+all-proper : (c : Config) (words : Words) (subject : Subject) (id : ObjectId) (parts : List (List ℕ)) → IsAt c.objects (is_service subject) id → SaysProper c (all_said words subject id parts)
+all-proper c words subject id [] at = tt
+all-proper c words subject id (word ∷ []) at = said-proper c words subject id word at
+all-proper c words subject id (word ∷ more ∷ []) at = more-proper c words (is_service subject) id word more at
+all-proper c words subject id (word ∷ more ∷ another ∷ others) at = tt
 
 -- ---- the command and the line
 
@@ -138,15 +165,15 @@ ok_or-gives : (c : Config) (kind : Option EventKind) → SaysProper c kind → G
 ok_or-gives c None proper = refl
 ok_or-gives c (Some kind) proper = proper
 
-said-gives : (c : Config) (words : Words) (subject : Subject) (object : Option ObjectId) (word : List ℕ) → IsFound c.objects (is_service subject) object → Gives c (said_reading words subject object word)
-said-gives c words subject None word found = refl
-said-gives c words subject (Some id) word found = ok_or-gives c (said words subject id word) (said-proper c words subject id word found)
+said-gives : (c : Config) (words : Words) (subject : Subject) (object : Option ObjectId) (parts : List (List ℕ)) → IsFound c.objects (is_service subject) object → Gives c (said_reading words subject object parts)
+said-gives c words subject None parts found = refl
+said-gives c words subject (Some id) parts found = ok_or-gives c (all_said words subject id parts) (all-proper c words subject id parts found)
 
 last-gives : (c : Config) (words : Words) (subject : Subject) (host : List ℕ) (service : Option (List ℕ)) (arguments : List (List ℕ)) → is_some service ≡ is_service subject → Gives c (last_reading c.objects words subject host service arguments)
-last-gives c words subject host service [] same = refl
-last-gives c words subject host service (word ∷ []) same =
-    said-gives c words subject (object_named c.objects host service) word (subst (λ (b : Bool). IsFound c.objects b (object_named c.objects host service)) same (named_found c.objects host service))
-last-gives c words subject host service (word ∷ more ∷ arguments) same = refl
+last-gives c words subject host service arguments same =
+    cond_both (are_so_many words arguments) (said_reading words subject (object_named c.objects host service) arguments) (Err BadState) (Gives c)
+    (λ _. said-gives c words subject (object_named c.objects host service) arguments (subst (λ (b : Bool). IsFound c.objects b (object_named c.objects host service)) same (named_found c.objects host service)))
+    (λ _. refl)
 
 object-gives : (c : Config) (words : Words) (subject : Subject) (arguments : List (List ℕ)) → Gives c (object_reading c.objects words subject arguments)
 object-gives c words subject [] = refl

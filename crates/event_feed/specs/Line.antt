@@ -12,7 +12,7 @@ use Rattle.due_model.specs.declared.config.ObjectId.{ObjectId}
 use Rattle.due_model.specs.declared.event.DowntimeChange.TheVariants.{Start, End, Cancelled}
 use Rattle.due_model.specs.declared.event.Event.{Event}
 use Rattle.due_model.specs.declared.event.EventKind.{EventKind}
-use Rattle.due_model.specs.declared.event.EventKind.TheVariants.{Clock, Program, Hard, Downtime, Flapping, Ack}
+use Rattle.due_model.specs.declared.event.EventKind.TheVariants.{Clock, Program, Hard, Downtime, Flapping, Ack, AckRemoved, OwnSwitch}
 use Rattle.due_model.specs.declared.state.State.TheVariants.{Up, Down, Unreachable, Fine, Warning, Unknown, Critical}
 use Rattle.text_lines.specs.LineReader.{line_limit}
 use Rattle.event_feed.specs.declared.fault.FeedFault.{FeedFault}
@@ -22,7 +22,7 @@ use Rattle.event_feed.specs.declared.line.Command.TheVariants.{TellTime, Switch,
 use Rattle.event_feed.specs.declared.line.Subject.{Subject}
 use Rattle.event_feed.specs.declared.line.Subject.TheVariants.{Host, Service}
 use Rattle.event_feed.specs.declared.line.Words.{Words}
-use Rattle.event_feed.specs.declared.line.Words.TheVariants.{States, Downtimes, Flaps, Acks}
+use Rattle.event_feed.specs.declared.line.Words.TheVariants.{States, Downtimes, Flaps, Acks, Switches}
 
 abbrev pub begins_with : List ℕ → List ℕ → Bool
 begins_with bytes front = bytes_eq (take (length front) bytes) front
@@ -80,6 +80,8 @@ command_named name =
     else if bytes_eq name (codes "SERVICE_FLAPPING") then Some (Tell Flaps Service)
     else if bytes_eq name (codes "HOST_ACK") then Some (Tell Acks Host)
     else if bytes_eq name (codes "SERVICE_ACK") then Some (Tell Acks Service)
+    else if bytes_eq name (codes "HOST_NOTIFICATIONS") then Some (Tell Switches Host)
+    else if bytes_eq name (codes "SERVICE_NOTIFICATIONS") then Some (Tell Switches Service)
     else None
 
 -- ---- the words
@@ -116,11 +118,29 @@ flapping_said object word =
     else if bytes_eq word (codes "STOP") then Some (Flapping object false)
     else None
 
--- that the problem is acknowledged, and how long that lasts (chapter "External Commands")
+-- that the problem is acknowledged, and how long that lasts, where contacts are to be notified of it or not (chapter
+-- "External Commands")
+abbrev pub ack_given : ObjectId → (notify : Bool) → List ℕ → Option EventKind
+ack_given object notify word =
+    if bytes_eq word (codes "STICKY") then Some (Ack object (record { sticky = true; notify = notify }))
+    else if bytes_eq word (codes "NORMAL") then Some (Ack object (record { sticky = false; notify = notify }))
+    else None
+
+-- that it is acknowledged, or isn't any more
 abbrev pub ack_said : ObjectId → List ℕ → Option EventKind
 ack_said object word =
-    if bytes_eq word (codes "STICKY") then Some (Ack object true)
-    else if bytes_eq word (codes "NORMAL") then Some (Ack object false)
+    if bytes_eq word (codes "NONE") then Some (AckRemoved object) else ack_given object false word
+
+-- that it is acknowledged, and that contacts are to be notified of that
+abbrev pub told_ack_said : ObjectId → (word more : List ℕ) → Option EventKind
+told_ack_said object word more =
+    if bytes_eq more (codes "NOTIFY") then ack_given object true word else None
+
+-- that the object's notifications are switched on or off (chapter "External Commands")
+abbrev pub own_switch_said : ObjectId → List ℕ → Option EventKind
+own_switch_said object word =
+    if bytes_eq word (codes "ON") then Some (OwnSwitch object true)
+    else if bytes_eq word (codes "OFF") then Some (OwnSwitch object false)
     else None
 
 -- what a word says of such an object
@@ -130,25 +150,56 @@ said States Service object word = service_state_said object word
 said Downtimes subject object word = downtime_said object word
 said Flaps subject object word = flapping_said object word
 said Acks subject object word = ack_said object word
+said Switches subject object word = own_switch_said object word
+
+-- what another word says behind it
+abbrev pub said_more : Words → ObjectId → (word more : List ℕ) → Option EventKind
+said_more States object word more = None
+said_more Downtimes object word more = None
+said_more Flaps object word more = None
+said_more Acks object word more = told_ack_said object word more
+said_more Switches object word more = None
+
+-- whether this word may stand there: behind an acknowledgement's alone
+abbrev pub takes_more : Words → (more : List ℕ) → Bool
+takes_more States more = false
+takes_more Downtimes more = false
+takes_more Flaps more = false
+takes_more Acks more = bytes_eq more (codes "NOTIFY")
+takes_more Switches more = false
+
+-- what all words say of such an object
+abbrev pub all_said : Words → Subject → ObjectId → List (List ℕ) → Option EventKind
+all_said words subject object [] = None
+all_said words subject object (word ∷ []) = said words subject object word
+all_said words subject object (word ∷ more ∷ []) = said_more words object word more
+all_said words subject object (word ∷ more ∷ another ∷ others) = None
 
 -- ---- the arguments
 
--- a word about an object: first the object must be known, then the word
-abbrev pub said_reading : Words → Subject → Option ObjectId → List ℕ → Result EventKind FeedFault
-said_reading words subject None word = Err UnknownObject
-said_reading words subject (Some object) word = ok_or (said words subject object word) BadState
+-- words about an object: first the object must be known, then the words
+abbrev pub said_reading : Words → Subject → Option ObjectId → List (List ℕ) → Result EventKind FeedFault
+said_reading words subject None arguments = Err UnknownObject
+said_reading words subject (Some object) arguments = ok_or (all_said words subject object arguments) BadState
 
--- what follows the name of an object: a word, and nothing more
+-- whether so many words may follow the name of an object: one, and `NOTIFY` behind that of an acknowledgement
+abbrev pub are_so_many : Words → List (List ℕ) → Bool
+are_so_many words [] = false
+are_so_many words (word ∷ []) = true
+are_so_many words (word ∷ more ∷ []) = takes_more words more
+are_so_many words (word ∷ more ∷ another ∷ others) = false
+
+-- what follows the name of an object: words, and nothing more
 abbrev pub last_reading : List Object → Words → Subject → (host : List ℕ)
     → (service : Option (List ℕ)) → List (List ℕ) → Result EventKind FeedFault
-last_reading objects words subject host service (word ∷ []) =
-    said_reading words subject (object_named objects host service) word
-last_reading objects words subject host service arguments = Err BadState
+last_reading objects words subject host service arguments =
+    if are_so_many words arguments
+    then said_reading words subject (object_named objects host service) arguments
+    else Err BadState
 
 -- why an object that isn't known is refused, given what follows its name
-abbrev pub unknown_fault : List (List ℕ) → FeedFault
-unknown_fault (word ∷ []) = UnknownObject
-unknown_fault arguments = BadState
+abbrev pub unknown_fault : Words → List (List ℕ) → FeedFault
+unknown_fault words arguments = if are_so_many words arguments then UnknownObject else BadState
 
 -- what follows the name of a service's host: the service's description, and then a word
 abbrev pub service_reading : List Object → Words → (host : List ℕ) → List (List ℕ)

@@ -1,6 +1,6 @@
 //! One line of the feed.
 
-ghost use Rattle.std.specs.Prelude.{◌≡◌, ◌+◌, ◌≤◌, ◌∷◌, ◌==◌};
+ghost use Rattle.std.specs.Prelude.{◌≡◌, ◌+◌, ◌≤◌, ◌∷◌, ◌==◌, ℕ, List};
 ghost use Rattle.std.specs.Prelude.{Some, None, IfOk, IfSome, nat_le};
 ghost use Rattle.std.specs.Prelude.{◌<◌, ◌^◌, All, IsTrue, length, min, take_while};
 ghost use Rattle.std.specs.Prelude.{if◌then◌else◌};
@@ -10,17 +10,21 @@ ghost use Rattle.std.specs.List.{prefix_len};
 ghost use Rattle.due_model.specs.Proper.{IsProper};
 ghost use Rattle.due_model.specs.Limits.{last_moment};
 ghost use Rattle.std.specs.Char.{is_ascii_digit};
-ghost use Rattle.event_feed.specs.Line.{ack_said, bare_reading, command_named, command_of};
+ghost use Rattle.event_feed.specs.declared.fault.FeedFault.TheVariants.{BadState, UnknownObject};
+ghost use Rattle.event_feed.specs.declared.line.Subject.{Subject};
+ghost use Rattle.event_feed.specs.declared.line.Words.TheVariants.{Acks};
+ghost use Rattle.event_feed.specs.Line.{ack_given, ack_said, all_said, bare_reading, command_named, command_of};
 ghost use Rattle.event_feed.specs.Line.{command_reading, digits_number};
 ghost use Rattle.event_feed.specs.Line.{downtime_said, fields, fields_after, flapping_said};
 ghost use Rattle.event_feed.specs.Line.{host_state_said};
-ghost use Rattle.event_feed.specs.Line.{last_reading, line_reading, object_reading, said};
+ghost use Rattle.event_feed.specs.Line.{last_reading, line_reading, object_reading};
+ghost use Rattle.event_feed.specs.Line.{own_switch_said, told_ack_said};
 ghost use Rattle.event_feed.specs.Line.{service_reading, service_state_said, stamp_of};
 ghost use Rattle.event_feed.specs.Line.{unknown_fault};
 
 use crate::fault::FeedFault;
 use due_model::config::{Config, ObjectId};
-use due_model::event::{DowntimeChange, Event, EventKind};
+use due_model::event::{Acknowledgement, DowntimeChange, Event, EventKind};
 use due_model::limits::{LAST_MOMENT, LINE_LIMIT};
 use due_model::state::State;
 use std::simd::prelude::*;
@@ -46,8 +50,11 @@ pub(crate) enum Words {
     Downtimes,
     /// Flapping starts or stops (chapter "State Flapping").
     Flaps,
-    /// The problem is acknowledged: until it is over, or until the state changes (chapter "External Commands").
+    /// The problem is acknowledged: until it is over, or until the state changes, and another word may say that contacts
+    /// are to be notified; or it isn't any more (chapter "External Commands").
     Acks,
+    /// The object's notifications are switched on or off (chapter "External Commands").
+    Switches,
 }
 
 /// What the arguments of a command name.
@@ -270,6 +277,10 @@ fn find_command(name: &[u8]) -> Option<Command>
         Some(Command::Tell(Words::Acks, Subject::Host))
     } else if is_word(name, b"SERVICE_ACK") {
         Some(Command::Tell(Words::Acks, Subject::Service))
+    } else if is_word(name, b"HOST_NOTIFICATIONS") {
+        Some(Command::Tell(Words::Switches, Subject::Host))
+    } else if is_word(name, b"SERVICE_NOTIFICATIONS") {
+        Some(Command::Tell(Words::Switches, Subject::Service))
     } else {
         None
     }
@@ -322,8 +333,8 @@ fn read_service(
     read_last(config, words, Subject::Service, host, Some(service), rest)
 }
 
-/// A command that tells of the object of a name, from what follows the name. No word has a `;`, so of an object that is
-/// known a wrong word and an argument too many are told at once. It is put in line, since it is handed so much.
+/// A command that tells of the object of a name, from what follows the name. Of an object that is known a wrong word and
+/// an argument too many are told at once. It is put in line, since it is handed so much.
 #[inline(always)]
 fn read_last(
     config: &Config,
@@ -341,33 +352,60 @@ fn read_last(
     };
     match config.objects.find(host, service) {
         Some(object) => find_said(words, subject, object, arguments).ok_or(FeedFault::BadState),
-        None => Err(unknown_fault(arguments)),
+        None => Err(unknown_fault(words, arguments)),
     }
 }
 
 /// Why a line is refused whose object isn't known: an argument too many is told before that.
-fn unknown_fault(arguments: &[u8]) -> FeedFault
-    ensures { result ≡ unknown_fault (fields arguments.now) }
+fn unknown_fault(words: Words, arguments: &[u8]) -> FeedFault
+    ensures { result ≡ unknown_fault words (fields arguments.now) }
 {
     match split_field(arguments) {
         (_, None) => FeedFault::UnknownObject,
-        (_, Some(_)) => FeedFault::BadState,
+        (_, Some(more)) => unknown_fault_after(words, more),
     }
 }
 
-/// What one of these words says of an object.
+/// The fault of an object that isn't known, where the number of arguments is right.
+fn fault_by(right: bool) -> FeedFault
+    ensures { result ≡ if right then UnknownObject else BadState }
+{
+    if right {
+        FeedFault::UnknownObject
+    } else {
+        FeedFault::BadState
+    }
+}
+
+/// The same where more follows a word.
+fn unknown_fault_after(words: Words, more: &[u8]) -> FeedFault
+    ensures { (word : List ℕ) → result ≡ unknown_fault words (word ∷ fields more.now) }
+{
+    match words {
+        Words::Acks => fault_by(is_word(more, b"NOTIFY")),
+        _ => FeedFault::BadState,
+    }
+}
+
+/// What these words say of an object. No word of those that stand alone has a `;`.
 #[inline(always)]
-fn find_said(words: Words, subject: Subject, object: ObjectId, word: &[u8]) -> Option<EventKind>
-    ensures { result ≡ said words subject object word.now }
+fn find_said(
+    words: Words,
+    subject: Subject,
+    object: ObjectId,
+    arguments: &[u8],
+) -> Option<EventKind>
+    ensures { result ≡ all_said words subject object (fields arguments.now) }
 {
     match words {
         Words::States => match subject {
-            Subject::Host => find_host_state(object, word),
-            Subject::Service => find_service_state(object, word),
+            Subject::Host => find_host_state(object, arguments),
+            Subject::Service => find_service_state(object, arguments),
         },
-        Words::Downtimes => find_downtime(object, word),
-        Words::Flaps => find_flapping(object, word),
-        Words::Acks => find_ack(object, word),
+        Words::Downtimes => find_downtime(object, arguments),
+        Words::Flaps => find_flapping(object, arguments),
+        Words::Acks => find_ack(object, arguments),
+        Words::Switches => find_own_switch(object, arguments),
     }
 }
 
@@ -431,14 +469,62 @@ fn find_flapping(object: ObjectId, word: &[u8]) -> Option<EventKind>
     }
 }
 
-/// What a word says of an acknowledgement of an object's problem.
-fn find_ack(object: ObjectId, word: &[u8]) -> Option<EventKind>
+/// What words say of an acknowledgement of an object's problem: one, and another behind it where contacts are to be
+/// notified.
+fn find_ack(object: ObjectId, arguments: &[u8]) -> Option<EventKind>
+    ensures { (subject : Subject) → result ≡ all_said Acks subject object (fields arguments.now) }
+{
+    match split_field(arguments) {
+        (word, None) => find_quiet_ack(object, word),
+        (word, Some(more)) => find_told_ack(object, word, more),
+    }
+}
+
+/// What a word says of it that stands alone.
+fn find_quiet_ack(object: ObjectId, word: &[u8]) -> Option<EventKind>
     ensures { result ≡ ack_said object word.now }
 {
+    if is_word(word, b"NONE") {
+        Some(EventKind::AckRemoved(object))
+    } else {
+        find_given_ack(object, false, word)
+    }
+}
+
+/// What a word says of it, and another behind it.
+fn find_told_ack(object: ObjectId, word: &[u8], more: &[u8]) -> Option<EventKind>
+    ensures { result ≡ told_ack_said object word.now more.now }
+{
+    if is_word(more, b"NOTIFY") {
+        find_given_ack(object, true, word)
+    } else {
+        None
+    }
+}
+
+/// What a word says of one that is given, of which contacts are to be notified or not.
+fn find_given_ack(object: ObjectId, notify: bool, word: &[u8]) -> Option<EventKind>
+    ensures { result ≡ ack_given object notify word.now }
+{
     if is_word(word, b"STICKY") {
-        Some(EventKind::Ack(object, true))
+        let sticky = true;
+        Some(EventKind::Ack(object, Acknowledgement { sticky, notify }))
     } else if is_word(word, b"NORMAL") {
-        Some(EventKind::Ack(object, false))
+        let sticky = false;
+        Some(EventKind::Ack(object, Acknowledgement { sticky, notify }))
+    } else {
+        None
+    }
+}
+
+/// What a word says of an object's own switch.
+fn find_own_switch(object: ObjectId, word: &[u8]) -> Option<EventKind>
+    ensures { result ≡ own_switch_said object word.now }
+{
+    if is_word(word, b"ON") {
+        Some(EventKind::OwnSwitch(object, true))
+    } else if is_word(word, b"OFF") {
+        Some(EventKind::OwnSwitch(object, false))
     } else {
         None
     }

@@ -9,7 +9,8 @@ use Rattle.filter_values.specs.Values.{filter_at, filter_text}
 -- the filter at a place, after a comma where it isn't the first
 abbrev pub passed_json_at : Config → (o place : ℕ) → List ℕ
 passed_json_at c o place =
-    (if place == 0 then [] else codes ",") ++ string_json (filter_text c o (filter_at place))
+    (if place == 0 then [] else codes ",")
+    ++ string_json (filter_text c o (filter_at c.choices place))
 
 -- the first filters of the object
 abbrev pub first_json : Config → (o count : ℕ) → List ℕ

@@ -2,41 +2,79 @@
 use Rattle.std.specs.Prelude.{ℕ, ◌==◌, Bool, List, [], ◌++◌, codes, decimal, flat_map, is_some, slice_get, Option, None, Some, if◌then◌else◌}
 use Rattle.std.specs.List.{range_with_len}
 use Rattle.std.specs.Option.{option_map_or}
+use Rattle.due_model.specs.declared.config.Choices.{Choices}
 use Rattle.due_model.specs.declared.config.Config.{Config}
 use Rattle.due_model.specs.declared.config.Object.{Object}
 use Rattle.due_model.specs.declared.config.PeriodId.{PeriodId}
 use Rattle.due_model.specs.declared.config.Rights.{Rights}
 use Rattle.due_model.specs.declared.notice.Filter.{Filter}
-use Rattle.due_model.specs.declared.notice.Filter.TheVariants.{Acknowledged, ContactDisabled, ContactOptions, ContactPeriod, Dependency, Disabled, Downtime, FirstDelay, Flapping, Interval, NoProblem, Options, Period, Program}
+use Rattle.due_model.specs.declared.notice.Filter.TheVariants.{Acknowledged, ContactDisabled, ContactNotTold, ContactOptions, ContactPeriod, Dependency, Disabled, Downtime, FirstDelay, Flapping, HostDown, Interval, NoProblem, Options, Period, Program}
 use Rattle.due_model.specs.declared.options.OptionLetters.{OptionLetters}
-use Rattle.due_model.specs.Due.{rights_for}
+use Rattle.due_model.specs.Receivers.{rights_for}
 use Rattle.notice_text.specs.Names.{filter_name}
 
+-- how many filters of an object are tried: that which asks for the host of a service is one where it can fail
+abbrev pub filter_count : Choices → ℕ
+filter_count choices = if choices.host_down then 12 else 11
+
+-- a place in the order in which filters are tried, or in the daemon's
+abbrev pub placed : Choices → (own daemons : ℕ) → ℕ
+placed choices own daemons = if choices.order then daemons else own
+
 -- how many filters of an object are tried before this one; before those of a contact all of them are
-abbrev pub place_of : Filter → ℕ
-place_of Program = 0
-place_of Disabled = 1
-place_of Downtime = 2
-place_of Flapping = 3
-place_of Options = 4
-place_of NoProblem = 5
-place_of Period = 6
-place_of Dependency = 7
-place_of Acknowledged = 8
-place_of FirstDelay = 9
-place_of Interval = 10
-place_of ContactDisabled = 11
-place_of ContactOptions = 11
-place_of ContactPeriod = 11
+abbrev pub place_of : Choices → Filter → ℕ
+place_of choices Program = 0
+place_of choices Disabled = placed choices 1 2
+place_of choices Downtime = placed choices 2 9
+place_of choices Flapping = placed choices 3 8
+place_of choices Options = placed choices 4 5
+place_of choices NoProblem = placed choices 5 6
+place_of choices Period = placed choices 6 1
+place_of choices Dependency = placed choices 7 4
+place_of choices Acknowledged = placed choices 8 3
+place_of choices FirstDelay = placed choices 9 7
+place_of choices Interval = 10
+place_of choices HostDown = 11
+place_of choices ContactDisabled = filter_count choices
+place_of choices ContactOptions = filter_count choices
+place_of choices ContactPeriod = filter_count choices
+place_of choices ContactNotTold = filter_count choices
 
 -- the filter of an object at a place
-abbrev pub filter_at : ℕ → Filter
-filter_at place =
-    if place == 0 then Program else if place == 1 then Disabled else if place == 2 then Downtime
-    else if place == 3 then Flapping else if place == 4 then Options
-    else if place == 5 then NoProblem else if place == 6 then Period
-    else if place == 7 then Dependency else if place == 8 then Acknowledged
-    else if place == 9 then FirstDelay else Interval
+abbrev pub own_filter_at : ℕ → Filter
+own_filter_at place =
+    if place == 0 then Program
+    else if place == 1 then Disabled
+    else if place == 2 then Downtime
+    else if place == 3 then Flapping
+    else if place == 4 then Options
+    else if place == 5 then NoProblem
+    else if place == 6 then Period
+    else if place == 7 then Dependency
+    else if place == 8 then Acknowledged
+    else if place == 9 then FirstDelay
+    else if place == 10 then Interval
+    else HostDown
+
+-- the same in the daemon's order
+abbrev pub daemons_filter_at : ℕ → Filter
+daemons_filter_at place =
+    if place == 0 then Program
+    else if place == 1 then Period
+    else if place == 2 then Disabled
+    else if place == 3 then Acknowledged
+    else if place == 4 then Dependency
+    else if place == 5 then Options
+    else if place == 6 then NoProblem
+    else if place == 7 then FirstDelay
+    else if place == 8 then Flapping
+    else if place == 9 then Downtime
+    else if place == 10 then Interval
+    else HostDown
+
+abbrev pub filter_at : Choices → ℕ → Filter
+filter_at choices place =
+    if choices.order then daemons_filter_at place else own_filter_at place
 
 -- ---- values
 
@@ -138,7 +176,7 @@ contact_period_of c o k filter = None
 abbrev pub passed_at : Config → (o place : ℕ) → List ℕ
 passed_at c o place =
     (if place == 0 then codes "    passed       " else codes ", ")
-    ++ filter_text c o (filter_at place)
+    ++ filter_text c o (filter_at c.choices place)
 
 -- the first filters of the object, and the end of the line
 abbrev pub passed_text : Config → (o count : ℕ) → List ℕ

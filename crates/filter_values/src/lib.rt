@@ -6,6 +6,6 @@ mod values;
 
 pub use tried::push_tried;
 pub use values::{
-    contact_period_of, period_of, place_of, push_contact_filter, push_decimal, push_filter_after,
-    push_passed,
+    contact_period_of, filter_count, period_of, place_of, push_contact_filter, push_decimal,
+    push_filter_after, push_passed,
 };

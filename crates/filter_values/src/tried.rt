@@ -39,11 +39,12 @@ fn push_passed_at(
     ensures { OnOk result
         (text.new.items ≡ text.old.items ++ passed_json_at config.now object.0 place) }
 {
+    let filter = filter_at(config.choices, place);
     if place == 0 {
-        return push_filter_string(alloc, text, config, object, filter_at(place));
+        return push_filter_string(alloc, text, config, object, filter);
     }
     text.extend_from_slice(b",")?;
-    push_filter_string(alloc, text, config, object, filter_at(place))
+    push_filter_string(alloc, text, config, object, filter)
 }
 
 /// Adds the first filters.

@@ -2,44 +2,61 @@
 
 ghost use Rattle.std.specs.Prelude.{◌≡◌, ◌++◌, decimal, flat_map, is_some, OnOk};
 ghost use Rattle.std.specs.List.{range_with_len};
-ghost use Rattle.due_model.specs.Due.{rights_for};
+ghost use Rattle.due_model.specs.Receivers.{rights_for};
 ghost use Rattle.filter_values.specs.Values.{contact_filter_text, contact_value, filter_at, filter_text};
+ghost use Rattle.filter_values.specs.Values.{daemons_filter_at, filter_count, own_filter_at, placed};
 ghost use Rattle.filter_values.specs.Values.{host_letters, letter_text, letters_text, other_letters, passed_at, passed_text, period_name, period_text, service_letters};
 ghost use Rattle.filter_values.specs.Values.{contact_period_of, object_value, period_of, place_of, right_of, right_period};
 ghost use Rattle.filter_values.specs.Values.{value_of};
 
-use due_model::config::{Config, Contact, ContactId, Object, ObjectId, PeriodId, Rights};
+use due_model::config::{Choices, Config, Contact, ContactId, Object, ObjectId, PeriodId, Rights};
 use due_model::notice::Filter;
 use due_model::options::OptionLetters;
 use itoa::Buffer;
 use notice_text::names::filter_name;
 use std::alloc::AllocError;
 
+/// How many filters of an object are tried: that which asks for the host of a service is one where it can fail.
+pub fn filter_count(choices: Choices) -> usize
+    ensures { result ≡ filter_count choices }
+{
+    if choices.host_down { 12 } else { 11 }
+}
+
+/// A place in the order in which filters are tried, or in the daemon's.
+fn placed(choices: Choices, own: usize, daemons: usize) -> usize
+    ensures { result ≡ placed choices own daemons }
+{
+    if choices.order { daemons } else { own }
+}
+
 /// How many filters of an object are tried before this one; before those of a contact all of them are.
-pub fn place_of(filter: Filter) -> usize
-    ensures { result ≡ place_of filter }
+pub fn place_of(choices: Choices, filter: Filter) -> usize
+    ensures { result ≡ place_of choices filter }
 {
     match filter {
         Filter::Program => 0,
-        Filter::Disabled => 1,
-        Filter::Downtime => 2,
-        Filter::Flapping => 3,
-        Filter::Options => 4,
-        Filter::NoProblem => 5,
-        Filter::Period => 6,
-        Filter::Dependency => 7,
-        Filter::Acknowledged => 8,
-        Filter::FirstDelay => 9,
+        Filter::Disabled => placed(choices, 1, 2),
+        Filter::Downtime => placed(choices, 2, 9),
+        Filter::Flapping => placed(choices, 3, 8),
+        Filter::Options => placed(choices, 4, 5),
+        Filter::NoProblem => placed(choices, 5, 6),
+        Filter::Period => placed(choices, 6, 1),
+        Filter::Dependency => placed(choices, 7, 4),
+        Filter::Acknowledged => placed(choices, 8, 3),
+        Filter::FirstDelay => placed(choices, 9, 7),
         Filter::Interval => 10,
-        Filter::ContactDisabled => 11,
-        Filter::ContactOptions => 11,
-        Filter::ContactPeriod => 11,
+        Filter::HostDown => 11,
+        Filter::ContactDisabled => filter_count(choices),
+        Filter::ContactOptions => filter_count(choices),
+        Filter::ContactPeriod => filter_count(choices),
+        Filter::ContactNotTold => filter_count(choices),
     }
 }
 
 /// The filter of an object at a place.
-pub(crate) fn filter_at(place: usize) -> Filter
-    ensures { result ≡ filter_at place }
+fn own_filter_at(place: usize) -> Filter
+    ensures { result ≡ own_filter_at place }
 {
     if place == 0 {
         Filter::Program
@@ -61,8 +78,52 @@ pub(crate) fn filter_at(place: usize) -> Filter
         Filter::Acknowledged
     } else if place == 9 {
         Filter::FirstDelay
-    } else {
+    } else if place == 10 {
         Filter::Interval
+    } else {
+        Filter::HostDown
+    }
+}
+
+/// The same in the daemon's order.
+fn daemons_filter_at(place: usize) -> Filter
+    ensures { result ≡ daemons_filter_at place }
+{
+    if place == 0 {
+        Filter::Program
+    } else if place == 1 {
+        Filter::Period
+    } else if place == 2 {
+        Filter::Disabled
+    } else if place == 3 {
+        Filter::Acknowledged
+    } else if place == 4 {
+        Filter::Dependency
+    } else if place == 5 {
+        Filter::Options
+    } else if place == 6 {
+        Filter::NoProblem
+    } else if place == 7 {
+        Filter::FirstDelay
+    } else if place == 8 {
+        Filter::Flapping
+    } else if place == 9 {
+        Filter::Downtime
+    } else if place == 10 {
+        Filter::Interval
+    } else {
+        Filter::HostDown
+    }
+}
+
+/// The filter of an object at a place, in the order that is chosen.
+pub(crate) fn filter_at(choices: Choices, place: usize) -> Filter
+    ensures { result ≡ filter_at choices place }
+{
+    if choices.order {
+        daemons_filter_at(place)
+    } else {
+        own_filter_at(place)
     }
 }
 
@@ -370,10 +431,11 @@ fn push_passed_at(
     ensures { OnOk result
         (text.new.items ≡ text.old.items ++ passed_at config.now object.0 place) }
 {
+    let filter = filter_at(config.choices, place);
     if place == 0 {
-        push_filter_after(text, b"    passed       ", config, object, filter_at(place))
+        push_filter_after(text, b"    passed       ", config, object, filter)
     } else {
-        push_filter_after(text, b", ", config, object, filter_at(place))
+        push_filter_after(text, b", ", config, object, filter)
     }
 }
 

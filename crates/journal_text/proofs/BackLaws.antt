@@ -135,6 +135,7 @@ kind_word kind.FlappingStop = is_word (kind_name kind.FlappingStop) refl refl
 kind_word kind.DowntimeStart = is_word (kind_name kind.DowntimeStart) refl refl
 kind_word kind.DowntimeEnd = is_word (kind_name kind.DowntimeEnd) refl refl
 kind_word kind.DowntimeCancelled = is_word (kind_name kind.DowntimeCancelled) refl refl
+kind_word kind.Acknowledgement = is_word (kind_name kind.Acknowledgement) refl refl
 
 state_word : (s : State) → IsWord (state_name s)
 unfolding without
@@ -155,6 +156,7 @@ kind_back kind.FlappingStop = refl
 kind_back kind.DowntimeStart = refl
 kind_back kind.DowntimeEnd = refl
 kind_back kind.DowntimeCancelled = refl
+kind_back kind.Acknowledgement = refl
 
 state_back : (s : State) → state_said (state_name s) ≡ Some s
 state_back state.Pending = refl

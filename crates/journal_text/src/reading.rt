@@ -77,6 +77,8 @@ fn kind_of(word: &[u8]) -> Option<Kind>
         Some(Kind::DowntimeEnd)
     } else if word == b"DOWNTIMECANCELLED".as_slice() {
         Some(Kind::DowntimeCancelled)
+    } else if word == b"ACKNOWLEDGEMENT".as_slice() {
+        Some(Kind::Acknowledgement)
     } else {
         None
     }

@@ -6,10 +6,10 @@ use Rattle.std.proofs.lemmas.Bool.{eqb-true}
 use Rattle.std.proofs.lemmas.Option.{same_Some}
 use Rattle.due_model.specs.declared.event.Event.{Event}
 use Rattle.due_model.specs.declared.event.EventKind.{EventKind}
-use Rattle.due_model.specs.declared.event.EventKind.TheVariants.{Ack, Clock, Downtime, Flapping, Hard, Program}
+use Rattle.due_model.specs.declared.event.EventKind.TheVariants.{Ack, AckRemoved, OwnSwitch, Clock, Downtime, Flapping, Hard, Program}
 use Rattle.due_model.specs.declared.state.State.{State}
 use Rattle.due_model.specs.declared.state.State.TheVariants as state
-use Rattle.due_model.specs.Acknowledgements.{ack_after, acked, acknowledgement, acknowledges, is_ok_of, last_ack, outlasts, since_ack}
+use Rattle.due_model.specs.Acknowledgements.{ack_after, acked, acknowledgement, acknowledges, ends_ack, last_ack, outlasts, since_ack}
 use Rattle.due_model.specs.Readings.{hard, hard_after, is_ok_state, is_problem_state}
 use Rattle.due_model.specs.Rules.{same_state, state_number}
 
@@ -73,7 +73,7 @@ same_now o (e ∷ past) sticky s is all = by_ack (acknowledges o e.kind (hard o 
         → (elim a as (λ _. Option (Bool × State)) [ None ↦ last_ack o past | Some new ↦ Some (new, hard o (e ∷ past)) ]) ≡ Some (sticky, s)
         → list_all (outlasts o sticky s) (elim a as (λ _. List (List Event)) [ None ↦ (e ∷ past) ∷ since_ack o past | Some new ↦ [] ]) ≡ true
         → (sticky || same_state (hard o (e ∷ past)) s) ≡ true
-    by_ack None is all = and_second (not (is_ok_of o e.kind)) _ (and_first (outlasts o sticky s (e ∷ past)) _ all)
+    by_ack None is all = and_second (not (ends_ack o e.kind)) _ (and_first (outlasts o sticky s (e ∷ past)) _ all)
     by_ack (Some new) is all =
         let state : hard o (e ∷ past) ≡ s = ap (λ (p : Bool × State). p.1) (same_Some (new, hard o (e ∷ past)) (sticky, s) is) in
         or_true sticky _ (ap (λ t. same_state t s) state ∙ same_state_self s)
@@ -94,7 +94,13 @@ none_kept o (Hard p s) old is = by_test (p.0 == o)
     by_test false = refl
 none_kept o (Downtime p change) old is = refl
 none_kept o (Flapping p starts) old is = refl
-none_kept o (Ack p sticky) old is = is
+none_kept o (Ack p ack) old is = is
+none_kept o (AckRemoved p) old is = by_test (p.0 == o)
+  where
+    by_test : (mine : Bool) → (if mine then None else None) ≡ (let none : Option Bool = None in none)
+    by_test true = refl
+    by_test false = refl
+none_kept o (OwnSwitch p on) old is = refl
 
 -- an event that doesn't acknowledge, after an acknowledgement that outlasts all before
 goes_on : (o m : ℕ) (k : EventKind) (past : List Event) (sticky : Bool) (s : State) → acknowledges o k (hard o past) ≡ None
@@ -106,10 +112,16 @@ goes_on o m (Downtime p change) past sticky s none same = ap (λ (b : Bool). if 
 goes_on o m (Flapping p starts) past sticky s none same = ap (λ (b : Bool). if b then Some sticky else None) same
 goes_on o m (Ack p new) past sticky s none same = by_test (p.0 == o && is_problem_state (hard o past)) none
   where
-    by_test : (acks : Bool) → (if acks then Some new else None) ≡ None
-        → (if (sticky || same_state (hard o past) s) then Some sticky else None) ≡ (if acks then Some new else Some sticky)
+    by_test : (acks : Bool) → (if acks then Some new.sticky else None) ≡ None
+        → (if (sticky || same_state (hard o past) s) then Some sticky else None) ≡ (if acks then Some new.sticky else Some sticky)
     by_test true h = cc
     by_test false h = ap (λ (b : Bool). if b then Some sticky else None) same
+goes_on o m (AckRemoved p) past sticky s none same = by_test (p.0 == o)
+  where
+    by_test : (mine : Bool) → (if (not mine && (sticky || same_state (hard o past) s)) then Some sticky else None) ≡ (if mine then None else Some sticky)
+    by_test true = refl
+    by_test false = ap (λ (b : Bool). if b then Some sticky else None) same
+goes_on o m (OwnSwitch p on) past sticky s none same = ap (λ (b : Bool). if b then Some sticky else None) same
 goes_on o m (Hard p t) past sticky s none same = by_test (p.0 == o) (is_ok_state t) sticky same
   where
     by_test : (mine ok st : Bool) → (st || same_state (hard o past) s) ≡ true
@@ -148,7 +160,9 @@ acks_state o (Program on) old a is = is
 acks_state o (Hard p s) old a is = is
 acks_state o (Downtime p change) old a is = is
 acks_state o (Flapping p starts) old a is = is
-acks_state o (Ack p sticky) old a is = is
+acks_state o (Ack p ack) old a is = is
+acks_state o (AckRemoved p) old a is = is
+acks_state o (OwnSwitch p on) old a is = is
 
 acked_after : (o : ℕ) (k : EventKind) (old : State) (kept : Option Bool) (sticky : Bool) → acknowledges o k old ≡ Some sticky → Some sticky ≡ ack_after o k old kept
 acked_after o Clock old kept sticky is = cc
@@ -158,9 +172,11 @@ acked_after o (Downtime p change) old kept sticky is = cc
 acked_after o (Flapping p starts) old kept sticky is = cc
 acked_after o (Ack p new) old kept sticky is = by_test (p.0 == o && is_problem_state old) is
   where
-    by_test : (acks : Bool) → (if acks then Some new else None) ≡ Some sticky → Some sticky ≡ (if acks then Some new else kept)
+    by_test : (acks : Bool) → (if acks then Some new.sticky else None) ≡ Some sticky → Some sticky ≡ (if acks then Some new.sticky else kept)
     by_test true h = sym h
     by_test false h = cc
+acked_after o (AckRemoved p) old kept sticky is = cc
+acked_after o (OwnSwitch p on) old kept sticky is = cc
 
 step : (o m : ℕ) (k : EventKind) (past : List Event) (a : Option Bool) → acknowledges o k (hard_after o k (hard o past)) ≡ a
     → kept_by o (elim a as (λ _. Option (Bool × State)) [ None ↦ last_ack o past | Some new ↦ Some (new, hard_after o k (hard o past)) ])

@@ -11,7 +11,7 @@ use Rattle.due_model.specs.declared.config.Config.{Config}
 use Rattle.due_model.specs.declared.config.Dependency.{Dependency}
 use Rattle.due_model.specs.declared.state.State.{State}
 use Rattle.due_model.specs.declared.zone.Zone.{Zone}
-use Rattle.due_model.specs.Dependencies.{dependency_fails, entry_fails, has_state}
+use Rattle.due_model.specs.Dependencies.{dependency_fails, entry_fails, fails_at}
 use Rattle.due_model.specs.Periods.{in_period}
 
 -- what no element passes, each fails
@@ -28,7 +28,7 @@ module _ (c : Config) (zone : Zone) (states : ℕ → State) (t : ℕ) where
   in_time e = in_period c zone e.period t
 
   abbrev listed : Dependency → Bool
-  listed e = has_state e.states (states e.master.0)
+  listed e = fails_at c.choices.dep_pending e.states (states e.master.0)
 
   -- whether an entry makes object o fail, where `inner` says which objects fail
   abbrev fails_by : (ℕ → Bool) → ℕ → Dependency → Bool

@@ -3,6 +3,7 @@
 use Rattle.std.proofs.Common.{◌≡◌, ℕ, zero, suc, ◌+◌, ◌<◌, ◌≤◌, Bool, true, false, cond, ◌||◌, List, [], ◌∷◌, ◌++◌, length, length-take, length-take-le, get_or, take, drop, reverse, map-id, filter, flat_map, All, Some, slice_get, Contains, refl, sym, ap, ap₂, ◌∙◌, arith, replicate}
 use Rattle.std.specs.List.{AllPairs, list_any, range_with_len, slice_split, onto_first}
 use Rattle.std.proofs.lemmas.List.{take_more, reverse-append, length-reverse, take_all, drop_all, drop-append-le, get_or_default}
+use Rattle.std.proofs.lemmas.List.Folds.{list_any-append}
 use Rattle.std.proofs.lemmas.Option.{get_or_from_slice_get}
 use Rattle.std.proofs.lemmas.List.Elements.{All-nil, All-cons, All-head, All-tail, All-append, All-same}
 use Rattle.std.proofs.lemmas.List.FromFn.{get_or-range_with_len, length-range_with_len, filter_of_map_range_with_len_more}
@@ -109,6 +110,16 @@ pub any_alike : {X : Type 0} (f g : X → Bool) (xs : List X) → ((x : X) → C
 any_alike f g [] alike = refl
 any_alike f g (x ∷ xs) alike =
     ap₂ (λ a b. a || b) (alike x (0, omega arith, refl)) (any_alike f g xs (λ y found. alike y (suc found.0, omega (arith, found.1), found.2)))
+
+or_none : (b : Bool) → (b || false) ≡ b
+or_none true = refl
+or_none false = refl
+
+-- whether one of a list passes, with one element more
+pub any_more : {X : Type 0} (f : X → Bool) (xs : List X) (i : ℕ) (d : X) → i < length xs → list_any f (take (i + 1) xs) ≡ (list_any f (take i xs) || f (get_or xs i d))
+any_more f xs i d low =
+    ap (list_any f) (take_more xs i d low) ∙ list_any-append f (take i xs) (get_or xs i d ∷ [])
+    ∙ ap (λ (b : Bool). list_any f (take i xs) || b) (or_none (f (get_or xs i d)))
 
 -- what is read of a list at a place where an element stands
 pub is_read : {X : Type 0} (xs ys : List X) (i k : ℕ) (d x : X) → ys ≡ xs → k ≡ i → slice_get xs i ≡ Some x → get_or ys k d ≡ x

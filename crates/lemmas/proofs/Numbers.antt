@@ -74,6 +74,24 @@ module _ {A : Type 0} (f : ℕ → List A) (p : ℕ → Bool) where
       end true = append-nil _
       end false = append-nil _
 
+-- two alone give something, the lesser number first
+module _ {A : Type 0} (f : ℕ → List A) (p : ℕ → Bool) where
+  pub flat_two : (n a b : ℕ) → a < b → b < n → ((k : ℕ) → k < n → k ≢ a → k ≢ b → f k ≡ []) → flat_below f p n ≡ cond (p a) (f a) [] ++ cond (p b) (f b) []
+  flat_two zero a b order h others = absurd (omega arith)
+  flat_two (suc n) a b order h others = elim (cases_eq b n) [
+    | inl e ↦ flat_more f p n
+        ∙ ap (λ xs. xs ++ cond (p n) (f n) []) (flat_one f p n a (omega (arith, order, e)) (λ k below ne. others k (omega arith) ne (omega arith)))
+        ∙ subst (λ (m : ℕ). cond (p a) (f a) [] ++ cond (p m) (f m) [] ≡ cond (p a) (f a) [] ++ cond (p b) (f b) []) e refl
+    | inr ne ↦ flat_more f p n
+        ∙ ap (λ xs. xs ++ cond (p n) (f n) []) (flat_two n a b order (omega arith) (λ k below. others k (omega arith)))
+        ∙ ap (λ xs. (cond (p a) (f a) [] ++ cond (p b) (f b) []) ++ cond (p n) xs []) (others n (omega arith) (omega (arith, order, h)) (λ e. ne (sym e)))
+        ∙ end (p n)
+  ]
+    where
+      end : (b' : Bool) → (cond (p a) (f a) [] ++ cond (p b) (f b) []) ++ cond {A = List A} b' [] [] ≡ cond (p a) (f a) [] ++ cond (p b) (f b) []
+      end true = append-nil _
+      end false = append-nil _
+
 -- lists that are alike for each number that passes
 pub flat_same : {A : Type 0} (f g : ℕ → List A) (p : ℕ → Bool) (n : ℕ) → ((k : ℕ) → k < n → p k ≡ true → f k ≡ g k) → flat_below f p n ≡ flat_below g p n
 flat_same f g p zero alike = refl

@@ -1,5 +1,5 @@
 -- The entries of an event, in order: by object, then contact, then lane.
-use Rattle.std.specs.Prelude.{◌≡◌, ℕ, Bool, true, false, ◌==◌, List, [], ◌∷◌, ◌++◌, length, filter, flat_map, map, slice_get}
+use Rattle.std.specs.Prelude.{◌≡◌, ℕ, Bool, true, false, ◌==◌, List, [], ◌∷◌, ◌++◌, length, filter, flat_map, map, slice_get, Option}
 use Rattle.std.specs.List.{range_with_len}
 use Rattle.std.specs.Option.{option_map_or}
 use Rattle.due_model.specs.declared.config.Config.{Config}
@@ -10,9 +10,11 @@ use Rattle.due_model.specs.declared.notice.Outcome.{Outcome}
 use Rattle.due_model.specs.declared.notice.Outcome.TheVariants as outcome
 use Rattle.due_model.specs.declared.notice.Suppression.{Suppression}
 use Rattle.due_model.specs.declared.zone.Zone.{Zone}
-use Rattle.due_model.specs.Due.{receivers, notice_to, refusal_of, suppressions}
+use Rattle.due_model.specs.declared.options.OptionLetters.{OptionLetters}
+use Rattle.due_model.specs.Due.{notice_to, refusal_of, suppressions}
 use Rattle.due_model.specs.Histories.{hist, outcome as outcome_of}
 use Rattle.due_model.specs.declared.rules.Attempt.{Attempt}
+use Rattle.due_model.specs.Receivers.{receivers}
 use Rattle.messages.specs.declared.entries.Entry.{Entry}
 use Rattle.messages.specs.declared.entries.Entry.TheVariants.{Sent, Withheld}
 
@@ -20,20 +22,21 @@ use Rattle.messages.specs.declared.entries.Entry.TheVariants.{Sent, Withheld}
 
 -- what contact k has of an attempt on object o: the filter that refused it, or its notices, in the
 -- order of the lanes
-abbrev pub contact_entries : Config → Zone → ℕ → Object → (event number : ℕ) → Attempt → ℕ
-    → List Entry
-contact_entries c zone o object event number a k =
-    map Withheld (refusal_of c zone o object event number a k)
-    ++ flat_map (λ l. map Sent (notice_to c zone o object l event number a k))
+abbrev pub contact_entries : Config → Zone → ℕ → Object → (event number : ℕ) → Attempt
+    → (told : Option OptionLetters) → ℕ → List Entry
+contact_entries c zone o object event number a told k =
+    map Withheld (refusal_of c zone o object event number a told k)
+    ++ flat_map (λ l. map Sent (notice_to c zone o object l event number a told k))
     (range_with_len 0 (length c.lanes))
 
 -- what an outcome of object o adds: the filter of the object that stopped it, or what each receiver
 -- has, in number order
 abbrev pub outcome_entries : Config → Zone → ℕ → Object → (event : ℕ) → Outcome → List Entry
 outcome_entries c zone o object event outcome.Nothing = []
-outcome_entries c zone o object event (outcome.Sent k state number moment gap) =
+outcome_entries c zone o object event (outcome.Sent k state number moment gap reach) =
     (λ (a : Attempt).
-    flat_map (contact_entries c zone o object event number a) (receivers c zone o object a number))
+    flat_map (contact_entries c zone o object event number a reach.told)
+    (receivers c zone o object a number reach.standing))
     (record { kind = k; state = state; moment = moment })
 outcome_entries c zone o object event (outcome.Suppressed k state number moment why) =
     map Withheld (suppressions c zone o object event (outcome.Suppressed k state number moment why))

@@ -1,5 +1,5 @@
 -- A notification that goes out, and the entries that it adds.
-use Rattle.std.specs.Prelude.{◌≡◌, ℕ, ◌<◌, ◌≤◌, List, [], ◌∷◌, length, flat_map, map, slice_get, Option, Some, None, is_some, if◌then◌else◌}
+use Rattle.std.specs.Prelude.{◌≡◌, ℕ, ◌<◌, ◌≤◌, Bool, true, false, not, List, [], ◌∷◌, length, flat_map, map, slice_get, Option, Some, None, is_some, if◌then◌else◌}
 use Rattle.std.specs.List.{range_with_len}
 use Rattle.std.specs.Option.{option_map_or}
 use Rattle.due_model.specs.declared.config.Config.{Config}
@@ -7,6 +7,7 @@ use Rattle.due_model.specs.declared.config.Object.{Object}
 use Rattle.due_model.specs.declared.config.Rights.{Rights}
 use Rattle.due_model.specs.declared.notice.Filter.{Filter}
 use Rattle.due_model.specs.declared.notice.Notice.{Notice}
+use Rattle.due_model.specs.declared.notice.Reach.{Reach}
 use Rattle.due_model.specs.declared.notice.Outcome.{Outcome}
 use Rattle.due_model.specs.declared.notice.Outcome.TheVariants as outcome
 use Rattle.due_model.specs.declared.notice.Suppression.{Suppression}
@@ -21,9 +22,14 @@ use Rattle.messages.specs.declared.message.Message.{Message}
 use Rattle.outcomes.specs.declared.rules.Rules.{Rules}
 use Rattle.time_period.specs.Days.{AreCompiled}
 
--- as an outcome; its entries don't tell the gap
+-- how far it reaches, if it counts
+abbrev pub reach_of : Message → Reach
+reach_of m = record { heard = true; told = m.told; standing = m.standing }
+
+-- as an outcome; its entries don't tell the gap, nor whether it counts
 abbrev pub outcome_of : Message → Outcome
-outcome_of m = outcome.Sent m.attempt.kind m.attempt.state m.number m.attempt.moment 0
+outcome_of m =
+    outcome.Sent m.attempt.kind m.attempt.state m.number m.attempt.moment 0 (reach_of m)
 
 -- its notice to contact k on lane l
 abbrev pub notice_for : Message → (k l : ℕ) → Notice
@@ -72,8 +78,17 @@ abbrev pub message_entries : Config → Message → (k : ℕ) → List Entry
 message_entries c m k =
     option_map_or
     (λ contact. entries_unless c m k (rights_of m.attempt.service contact)
-    (contact_failing c m.attempt.zone.now (rights_of m.attempt.service contact) (plain m.attempt)))
+    (contact_failing c m.attempt.zone.now (rights_of m.attempt.service contact) (plain m.attempt)
+    m.told))
     (slice_get c.contacts k) []
+
+-- whether the filters of contact k pass
+abbrev pub message_passes : Config → Message → (k : ℕ) → Bool
+message_passes c m k = elim (slice_get c.contacts k) as (λ _. Bool) [
+  | None ↦ false
+  | Some contact ↦ not (is_some (contact_failing c m.attempt.zone.now
+      (rights_of m.attempt.service contact) (plain m.attempt) m.told))
+]
 
 -- what is asked of it where a contact's filters read it
 pub record IsReadable (c : Config) (m : Message) : Type 0 where

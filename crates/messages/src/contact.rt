@@ -1,8 +1,9 @@
 //! What one contact has of a notification.
 
-ghost use Rattle.std.specs.Prelude.{◌≡◌, ◌<◌, ◌++◌, length, map, OnErr, OnOk};
+ghost use Rattle.std.specs.Prelude.{◌≡◌, ◌<◌, ◌++◌, length, map, IfOk, OnErr, OnOk};
 ghost use Rattle.messages.specs.Entries.{HasMore};
 ghost use Rattle.messages.specs.Message.{IsReadable, lane_entries, lane_notices, message_entries};
+ghost use Rattle.messages.specs.Message.{message_passes};
 ghost use Rattle.messages.specs.declared.entries.Entry.TheVariants as entry;
 
 use crate::entries::Entry;
@@ -49,30 +50,34 @@ fn add_on_lanes(
     Ok(())
 }
 
-/// Adds what a contact has of a notification: the first of its filters that fails, or else its notices.
+/// Adds what a contact has of a notification: the first of its filters that fails, or else its notices. Whether its
+/// filters pass.
 #[tactic(auto, using(crate::proofs::MessageLemmas::has_more_same))]
 pub(crate) fn add_to_contact(
     config: &Config,
     message: &Message<'_>,
     contact: ContactId,
     entries: &mut Vec<Entry>,
-) -> Result<(), AllocError>
+) -> Result<bool, AllocError>
     requires readable { IsReadable config.now message.now }
     requires contact { contact.0 < length config.now.contacts }
     ensures entries { OnOk result (entries.new.items
         ≡ entries.old.items ++ message_entries config.now message.now contact.0) }
+    ensures passes { IfOk result (λ passes. passes
+        ≡ message_passes config.now message.now contact.0) }
     ensures left { OnErr result (HasMore entries.old.items entries.new.items) }
 {
     let settings = &config.contacts.as_slice()[usize::from(contact.0)];
-    match contact_verdict(config, contact, &message.attempt) {
+    match contact_verdict(config, contact, &message.attempt, message.told) {
         Ok(()) => {
             let rights = rights_of(message.attempt.service, settings);
             let lanes = config.lanes.as_slice().len() as u8;
-            add_on_lanes(message, contact, rights, lanes, entries)
+            add_on_lanes(message, contact, rights, lanes, entries)?;
+            Ok(true)
         }
         Err(filter) => {
             entries.push(Entry::Withheld(message.suppression(contact, filter)))?;
-            Ok(())
+            Ok(false)
         }
     }
 }

@@ -5,6 +5,7 @@ ghost use Rattle.messages.specs.Message.{notice_for, suppression_for};
 
 use due_model::config::{ContactId, LaneId, ObjectId};
 use due_model::notice::{Filter, Notice, Suppression};
+use due_model::options::OptionLetters;
 use filters::attempt::Attempt;
 
 /// A notification that goes out, before it is said to whom.
@@ -15,6 +16,10 @@ pub(crate) struct Message<'a> {
     pub(crate) object: ObjectId,
     /// The number of the notification in its problem, from 1; 0 for the kinds that have none.
     pub(crate) number: u64,
+    /// The letters of the states told in the problem, where only who takes one of them is notified.
+    pub(crate) told: Option<OptionLetters>,
+    /// How many notices of the problem went out before it.
+    pub(crate) standing: u64,
     /// Its kind, state and moment, with what filters read besides.
     pub(crate) attempt: Attempt<'a>,
 }

@@ -3,7 +3,7 @@ use Rattle.std.specs.Prelude.{ℕ, ◌+◌, Bool, not, ◌&&◌, ◌==◌, is_so
 use Rattle.due_model.specs.declared.config.ObjectId.{ObjectId}
 use Rattle.due_model.specs.declared.event.DowntimeChange.{DowntimeChange}
 use Rattle.due_model.specs.declared.event.EventKind.{EventKind}
-use Rattle.due_model.specs.declared.event.EventKind.TheVariants.{Clock, Program, Hard, Downtime, Flapping, Ack}
+use Rattle.due_model.specs.declared.event.EventKind.TheVariants.{Clock, Program, Hard, Downtime, Flapping, Ack, AckRemoved, OwnSwitch}
 use Rattle.due_model.specs.declared.state.State.TheVariants.{Pending}
 use Rattle.due_model.specs.Acknowledgements.{ack_after}
 use Rattle.due_model.specs.Readings.{depth_changed, hard_after, is_ok_state}
@@ -21,7 +21,9 @@ event_object (Program on) = None
 event_object (Hard o state) = Some o
 event_object (Downtime o change) = Some o
 event_object (Flapping o starts) = Some o
-event_object (Ack o sticky) = Some o
+event_object (Ack o ack) = Some o
+event_object (AckRemoved o) = Some o
+event_object (OwnSwitch o on) = Some o
 
 -- how many downtimes run after one began or ended; a count stays at the most that it can be
 abbrev pub depth_after : DowntimeChange → (depth : ℕ) → ℕ
@@ -34,7 +36,9 @@ depth_on (Program on) depth = depth
 depth_on (Hard o state) depth = depth
 depth_on (Downtime o change) depth = depth_after change depth
 depth_on (Flapping o starts) depth = depth
-depth_on (Ack o sticky) depth = depth
+depth_on (Ack o ack) depth = depth
+depth_on (AckRemoved o) depth = depth
+depth_on (OwnSwitch o on) depth = depth
 
 -- the condition of object o after an event that says something of it
 abbrev pub condition_after : EventKind → (o : ℕ) → Condition → Condition

@@ -57,6 +57,8 @@ pub(crate) fn event_object(kind: EventKind) -> Option<ObjectId>
         EventKind::Downtime(object, _) => Some(object),
         EventKind::Flapping(object, _) => Some(object),
         EventKind::Ack(object, _) => Some(object),
+        EventKind::AckRemoved(object) => Some(object),
+        EventKind::OwnSwitch(object, _) => Some(object),
     }
 }
 

@@ -34,6 +34,7 @@ pub fn kind_name(kind: Kind) -> &'static str
         Kind::DowntimeStart => "DOWNTIMESTART",
         Kind::DowntimeEnd => "DOWNTIMEEND",
         Kind::DowntimeCancelled => "DOWNTIMECANCELLED",
+        Kind::Acknowledgement => "ACKNOWLEDGEMENT",
     }
 }
 
@@ -53,8 +54,10 @@ pub fn filter_name(filter: Filter) -> &'static str
         Filter::Acknowledged => "Acknowledged",
         Filter::FirstDelay => "FirstDelay",
         Filter::Interval => "Interval",
+        Filter::HostDown => "HostDown",
         Filter::ContactDisabled => "ContactDisabled",
         Filter::ContactOptions => "ContactOptions",
         Filter::ContactPeriod => "ContactPeriod",
+        Filter::ContactNotTold => "ContactNotTold",
     }
 }

@@ -1,3 +1,4 @@
+pub mod Choices
 pub mod Refusal
 pub mod Zones
 pub mod Shown

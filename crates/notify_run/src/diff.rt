@@ -8,6 +8,7 @@ use crate::faults::say_more;
 use crate::pretty::row_form;
 use changed_notices::ChangeForm;
 use command_output::{AnyWriter, CommandFault, Ending};
+use due_model::config::Choices;
 use due_model::zone::Zone;
 use std::fs::File;
 use std::process::ExitCode;
@@ -40,6 +41,7 @@ fn status_of_comparison(
 /// Writes what the change from the object text of one file to that of another does to the notices of the feed on standard input.
 fn do_diff(
     rt: &HostRuntime,
+    choices: Choices,
     zone: &Zone,
     objects: &str,
     changed: &str,
@@ -55,12 +57,22 @@ fn do_diff(
     let after = AnyReader::new(after);
     let feed = AnyReader::new(rt.stdin());
     let mut writer = AnyWriter::new(rt.stdout());
-    compare_files(rt.alloc(), zone, before, after, feed, form, &mut writer)
+    compare_files(
+        rt.alloc(),
+        choices,
+        zone,
+        before,
+        after,
+        feed,
+        form,
+        &mut writer,
+    )
 }
 
 /// Does it, and gives the exit status.
 pub(crate) fn status_of_diff(
     rt: &HostRuntime,
+    choices: Choices,
     zone: &Zone,
     objects: &str,
     changed: &str,
@@ -71,6 +83,6 @@ pub(crate) fn status_of_diff(
         RowForm::Pretty(coloured) => ChangeForm::Pretty(coloured),
         RowForm::Json => ChangeForm::Json,
     };
-    let outcome = do_diff(rt, zone, objects, changed, form);
+    let outcome = do_diff(rt, choices, zone, objects, changed, form);
     status_of_comparison(rt, objects, changed, outcome)
 }

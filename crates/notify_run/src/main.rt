@@ -1,11 +1,12 @@
 //! The program `notify-run`: its command line, and how each command ends.
 #![tactic(auto)]
 
-ghost use Rattle.std.specs.Prelude.{◌≡◌, ◌<◌, is_some, true};
+ghost use Rattle.std.specs.Prelude.{◌≡◌, ◌<◌, is_some, true, None};
 ghost use Rattle.std.specs.Process.{exit_status};
 ghost use Rattle.clap.specs.Values.{kind_of};
 ghost use Rattle.command_output.specs.Outcome.{outcome_status};
 ghost use Rattle.command_line.specs.Words.{AreSettingsFit, AreTwo, asks_bad_letters, asks_two_forms, feed_fault, request_zone};
+ghost use Rattle.notify_run.specs.Choices.{chosen_by};
 ghost use Rattle.notify_run.specs.Refusal.{refusal_status};
 ghost use Rattle.notify_run.specs.Shown.{ArePickedBy, AreShownBy};
 ghost use Rattle.notify_run.specs.Zones.{IsBadRule};
@@ -23,10 +24,12 @@ mod why;
 mod zones;
 
 use check::status_of_check;
+use choice_words::choices_of;
 use clap::error::ErrorKind;
-use command_line::{Request, ShownWords, command, request_of};
+use command_line::{Request, ShownWords, ZoneWords, command, request_of};
 use command_output::{AnyWriter, CommandFault, Ending, exit_status};
 use diff::status_of_diff;
+use due_model::config::Choices;
 use due_model::zone::Zone;
 use faults::{say_more, say_more_of_input};
 use feeds::status_of_feed;
@@ -104,18 +107,19 @@ fn status_of_refusal<R: Print + Eprint>(rt: &R, error: &clap::Error) -> ExitCode
 /// the form that is asked for. A terminal at standard error shows how far it is.
 fn do_replay(
     rt: &HostRuntime,
+    choices: Choices,
     zone: &Zone,
     objects: Option<&str>,
     words: ShownWords<'_>,
 ) -> Result<Ending, CommandFault> {
     let mut line = ProgressLine::new(rt, rt.stderr().is_terminal());
     let outcome = if words.is_plain() {
-        replay_through(rt, zone, objects, &mut line)
+        replay_through(rt, choices, zone, objects, &mut line)
     } else if words.pretty {
-        pretty_through(rt, zone, objects, picks_of(words), &mut line)
+        pretty_through(rt, choices, zone, objects, picks_of(words), &mut line)
     } else {
         let shown = shown_lines(rt.alloc(), words);
-        show_through(rt, zone, objects, shown, &mut line)
+        show_through(rt, choices, zone, objects, shown, &mut line)
     };
     line.finish();
     outcome
@@ -124,6 +128,7 @@ fn do_replay(
 /// Writes all of the report, where somebody watches.
 fn replay_through<P: Watcher>(
     rt: &HostRuntime,
+    choices: Choices,
     zone: &Zone,
     objects: Option<&str>,
     watcher: &mut P,
@@ -132,13 +137,13 @@ fn replay_through<P: Watcher>(
     let input = AnyReader::new(rt.stdin());
     let mut writer = AnyWriter::new(rt.stdout());
     let Some(path) = objects else {
-        return replay_in(alloc, zone, input, &mut writer, watcher);
+        return replay_in(alloc, choices, zone, input, &mut writer, watcher);
     };
     let Ok(file) = File::open(rt, path) else {
         return Err(CommandFault::Unreadable);
     };
     let objects = AnyReader::new(file);
-    replay_files(alloc, zone, objects, input, &mut writer, watcher)
+    replay_files(alloc, choices, zone, objects, input, &mut writer, watcher)
 }
 
 /// Which lines are wanted.
@@ -168,6 +173,7 @@ pub(crate) fn shown_lines(alloc: Global, words: ShownWords<'_>) -> ShownLines<'_
 /// Writes those lines, where somebody watches.
 fn show_through<P: Watcher>(
     rt: &HostRuntime,
+    choices: Choices,
     zone: &Zone,
     objects: Option<&str>,
     shown: ShownLines<'_>,
@@ -177,18 +183,28 @@ fn show_through<P: Watcher>(
     let input = AnyReader::new(rt.stdin());
     let mut writer = AnyWriter::new(rt.stdout());
     let Some(path) = objects else {
-        return show_in(alloc, zone, input, shown, &mut writer, watcher);
+        return show_in(alloc, choices, zone, input, shown, &mut writer, watcher);
     };
     let Ok(file) = File::open(rt, path) else {
         return Err(CommandFault::Unreadable);
     };
     let objects = AnyReader::new(file);
-    show_files(alloc, zone, objects, input, shown, &mut writer, watcher)
+    show_files(
+        alloc,
+        choices,
+        zone,
+        objects,
+        input,
+        shown,
+        &mut writer,
+        watcher,
+    )
 }
 
 /// Does a trace.
 fn do_trace(
     rt: &HostRuntime,
+    choices: Choices,
     zone: &Zone,
     settings: Settings,
     standbys: u8,
@@ -197,7 +213,15 @@ fn do_trace(
 {
     let input = AnyReader::new(rt.stdin());
     let mut writer = AnyWriter::new(rt.stdout());
-    trace_in(rt.alloc(), zone, settings, standbys, input, &mut writer)
+    trace_in(
+        rt.alloc(),
+        choices,
+        zone,
+        settings,
+        standbys,
+        input,
+        &mut writer,
+    )
 }
 
 /// The same of a command that has read it from standard input.
@@ -247,10 +271,22 @@ fn status_of_run<R: Eprint>(rt: &R, outcome: Result<Ending, RunFault<'_>>) -> Ex
     }
 }
 
-/// Does what is asked in a zone, and gives the exit status. The handle is of the machine, and again that by which threads are started.
+/// Whose rules decide by the words of a command line. None, where a word says no choice.
+fn choices_asked(words: ZoneWords<'_, '_>) -> Option<Choices>
+    ensures { result ≡ chosen_by words.entry }
+{
+    match words.choose {
+        Some(texts) => choices_of(words.as_nagios, words.nagios, texts),
+        None => choices_of(words.as_nagios, words.nagios, &[]),
+    }
+}
+
+/// Does what is asked by these choices in a zone, and gives the exit status. The handle is of the machine, and again that by which
+/// threads are started.
 fn status_in<T: Threads + Wait + Clock + Sync>(
     rt: &HostRuntime,
     threads: &T,
+    choices: Choices,
     zone: &Zone,
     request: Request<'_, '_>,
 ) -> ExitCode
@@ -259,22 +295,24 @@ fn status_in<T: Threads + Wait + Clock + Sync>(
     let has_zone = request.zone().is_given();
     match request {
         Request::Replay { objects, shown, .. } => match shown.picture {
-            Some(path) => status_of_picture(rt, zone, objects, shown, path),
-            None => status_of_replay(rt, objects, do_replay(rt, zone, objects, shown)),
+            Some(path) => status_of_picture(rt, choices, zone, objects, shown, path),
+            None => status_of_replay(rt, objects, do_replay(rt, choices, zone, objects, shown)),
         },
         Request::Trace {
             settings,
             standbys,
             ..
-        } => status_of_input(rt, do_trace(rt, zone, settings, standbys)),
-        Request::Who { objects, asked, .. } => status_of_who(rt, threads, zone, objects, asked),
+        } => status_of_input(rt, do_trace(rt, choices, zone, settings, standbys)),
+        Request::Who { objects, asked, .. } => {
+            status_of_who(rt, threads, choices, zone, objects, asked)
+        }
         Request::Diff {
             objects,
             changed,
             json,
             ..
-        } => status_of_diff(rt, zone, objects, changed, json),
-        Request::Why { objects, asked, .. } => status_of_why(rt, zone, objects, asked),
+        } => status_of_diff(rt, choices, zone, objects, changed, json),
+        Request::Why { objects, asked, .. } => status_of_why(rt, choices, zone, objects, asked),
         Request::Check { asked, .. } => status_of_check(rt, zone, has_zone, asked),
         Request::Run {
             objects,
@@ -288,6 +326,7 @@ fn status_in<T: Threads + Wait + Clock + Sync>(
             ..
         } => {
             let settings = RunSettings {
+                choices,
                 settings,
                 timeout: times.timeout,
                 pause: times.pause,
@@ -299,8 +338,8 @@ fn status_in<T: Threads + Wait + Clock + Sync>(
     }
 }
 
-/// Does what is asked, and gives the exit status. Letters and forms of lines are looked at before the zone is read, and that before
-/// anything else.
+/// Does what is asked, and gives the exit status. Letters and forms of lines and the choices are looked at before the zone is read, and
+/// that before anything else.
 fn status_of_request<T: Threads + Wait + Clock + Sync>(
     rt: &HostRuntime,
     threads: &T,
@@ -312,6 +351,7 @@ fn status_of_request<T: Threads + Wait + Clock + Sync>(
     ensures letters { asks_bad_letters request.entry ≡ true → exit_status result ≡ 2 }
     ensures feed { is_some (feed_fault request.entry) ≡ true → exit_status result ≡ 2 }
     ensures forms { asks_two_forms request.entry ≡ true → exit_status result ≡ 2 }
+    ensures choice { chosen_by (request_zone request.entry) ≡ None → exit_status result ≡ 2 }
 {
     if request.asks_bad_letters() {
         return status_of_words(rt, "bad letters");
@@ -323,8 +363,11 @@ fn status_of_request<T: Threads + Wait + Clock + Sync>(
         return status_of_words(rt, "two forms");
     }
     let words = request.zone();
+    let Some(choices) = choices_asked(words) else {
+        return status_of_words(rt, "bad choice");
+    };
     match zone_asked(rt, words) {
-        Ok(zone) => status_in(rt, threads, &zone, request),
+        Ok(zone) => status_in(rt, threads, choices, &zone, request),
         Err(fault) => status_of_zone(rt, words, fault),
     }
 }

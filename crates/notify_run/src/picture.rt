@@ -4,9 +4,10 @@ use crate::pretty::has_colours;
 use crate::{out_of_memory, picks_of, shown_lines, status_of, status_of_replay};
 use command_line::ShownWords;
 use command_output::{AnyWriter, CommandFault, Ending};
+use due_model::config::Choices;
 use due_model::zone::Zone;
 use progress::{ProgressLine, Watcher};
-use report_picture::{Picture, draw_files, draw_in};
+use report_picture::{Picture, Site, draw_files, draw_in};
 use report_pretty::PrettyLines;
 use report_telling::Teller;
 use std::fs::{self, File};
@@ -17,7 +18,7 @@ use text_lines::AnyReader;
 /// Tells the lines of the report to a teller, and draws the picture, where somebody watches.
 fn draw_through<P: Watcher, T: Teller>(
     rt: &HostRuntime,
-    zone: &Zone,
+    site: Site<'_>,
     objects: Option<&str>,
     teller: T,
     picture: &mut Picture,
@@ -27,7 +28,7 @@ fn draw_through<P: Watcher, T: Teller>(
     let input = AnyReader::new(rt.stdin());
     let mut writer = AnyWriter::new(rt.stdout());
     let Some(path) = objects else {
-        return draw_in(alloc, zone, input, teller, picture, &mut writer, watcher);
+        return draw_in(alloc, site, input, teller, picture, &mut writer, watcher);
     };
     let Ok(file) = File::open(rt, path) else {
         return Err(CommandFault::Unreadable);
@@ -35,7 +36,7 @@ fn draw_through<P: Watcher, T: Teller>(
     let objects = AnyReader::new(file);
     draw_files(
         alloc,
-        zone,
+        site,
         objects,
         input,
         teller,
@@ -48,7 +49,7 @@ fn draw_through<P: Watcher, T: Teller>(
 /// Does a replay with a picture: the lines that are wanted, in the form that is asked for.
 fn draw_shown<P: Watcher>(
     rt: &HostRuntime,
-    zone: &Zone,
+    site: Site<'_>,
     objects: Option<&str>,
     words: ShownWords<'_>,
     picture: &mut Picture,
@@ -56,10 +57,10 @@ fn draw_shown<P: Watcher>(
 ) -> Result<Ending, CommandFault> {
     if words.pretty {
         let pretty = PrettyLines::new(rt.alloc(), picks_of(words), has_colours(rt))?;
-        draw_through(rt, zone, objects, pretty, picture, watcher)
+        draw_through(rt, site, objects, pretty, picture, watcher)
     } else {
         let shown = shown_lines(rt.alloc(), words);
-        draw_through(rt, zone, objects, shown, picture, watcher)
+        draw_through(rt, site, objects, shown, picture, watcher)
     }
 }
 
@@ -112,6 +113,7 @@ fn say_left_out(rt: &HostRuntime, left_out: u64) {
 /// tried before anything is read.
 pub(crate) fn status_of_picture(
     rt: &HostRuntime,
+    choices: Choices,
     zone: &Zone,
     objects: Option<&str>,
     words: ShownWords<'_>,
@@ -123,7 +125,8 @@ pub(crate) fn status_of_picture(
     };
     let mut line = ProgressLine::new(rt, rt.stderr().is_terminal());
     let mut picture = Picture::new(rt.alloc());
-    let outcome = draw_shown(rt, zone, objects, words, &mut picture, &mut line);
+    let site = Site { choices, zone };
+    let outcome = draw_shown(rt, site, objects, words, &mut picture, &mut line);
     line.finish();
     if outcome.is_err() {
         unfinished.remove(rt);

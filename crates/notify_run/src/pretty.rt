@@ -4,10 +4,11 @@ ghost use Rattle.std.specs.Prelude.{◌≡◌, true};
 ghost use Rattle.who_missed.specs.declared.forms.RowForm.TheVariants.{Json};
 
 use command_output::{AnyWriter, CommandFault, Ending};
+use due_model::config::Choices;
 use due_model::zone::Zone;
 use line_forms::Picks;
 use progress::Watcher;
-use report_pretty::{pretty_files, pretty_in};
+use report_pretty::{Wanted, pretty_files, pretty_in};
 use std::env::{self, VarError};
 use std::fs::File;
 use std::io::IsTerminal;
@@ -42,16 +43,21 @@ pub(crate) fn row_form(rt: &HostRuntime, json: bool) -> RowForm
 /// Writes the lines that are wanted for people, where somebody watches.
 pub(crate) fn pretty_through<P: Watcher>(
     rt: &HostRuntime,
+    choices: Choices,
     zone: &Zone,
     objects: Option<&str>,
     picks: Picks<'_>,
     watcher: &mut P,
 ) -> Result<Ending, CommandFault> {
-    let (alloc, coloured) = (rt.alloc(), has_colours(rt));
+    let alloc = rt.alloc();
+    let wanted = Wanted {
+        picks,
+        coloured: has_colours(rt),
+    };
     let input = AnyReader::new(rt.stdin());
     let mut writer = AnyWriter::new(rt.stdout());
     let Some(path) = objects else {
-        return pretty_in(alloc, zone, input, picks, coloured, &mut writer, watcher);
+        return pretty_in(alloc, choices, zone, input, wanted, &mut writer, watcher);
     };
     let Ok(file) = File::open(rt, path) else {
         return Err(CommandFault::Unreadable);
@@ -59,11 +65,11 @@ pub(crate) fn pretty_through<P: Watcher>(
     let objects = AnyReader::new(file);
     pretty_files(
         alloc,
+        choices,
         zone,
         objects,
         input,
-        picks,
-        coloured,
+        wanted,
         &mut writer,
         watcher,
     )

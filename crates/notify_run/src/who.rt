@@ -11,6 +11,7 @@ use crate::pretty::row_form;
 use crate::{status_of, status_of_words};
 use command_line::WhoWords;
 use command_output::{AnyWriter, CommandFault, Ending};
+use due_model::config::Choices;
 use due_model::limits::LAST_MOMENT;
 use due_model::zone::Zone;
 use given_times::{minutes_given, moment_given};
@@ -89,6 +90,7 @@ fn status_of_told(
 /// Writes who would be told of what is asked, from the moment on, for so many minutes.
 fn do_who<'a>(
     rt: &HostRuntime,
+    choices: Choices,
     zone: &Zone,
     objects: &str,
     asked: WhoWords<'a, 'a>,
@@ -107,13 +109,22 @@ fn do_who<'a>(
     let objects = AnyReader::new(file);
     let form = row_form(rt, asked.json);
     let mut writer = AnyWriter::new(rt.stdout());
-    who(rt.alloc(), zone, objects, &supposed, form, &mut writer)
+    who(
+        rt.alloc(),
+        choices,
+        zone,
+        objects,
+        &supposed,
+        form,
+        &mut writer,
+    )
 }
 
 /// Writes who would be told of what is asked, and gives the exit status. Its times are looked at before anything else.
 pub(crate) fn status_of_who<T: Clock>(
     rt: &HostRuntime,
     clock: &T,
+    choices: Choices,
     zone: &Zone,
     objects: &str,
     asked: WhoWords<'_, '_>,
@@ -126,7 +137,7 @@ pub(crate) fn status_of_who<T: Clock>(
     };
     match minutes_given(asked.lasting) {
         Some(minutes) => {
-            let outcome = do_who(rt, zone, objects, asked, moment, minutes);
+            let outcome = do_who(rt, choices, zone, objects, asked, moment, minutes);
             status_of_told(rt, objects, outcome)
         }
         None => status_of_words(rt, "bad length"),

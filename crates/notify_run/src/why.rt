@@ -11,7 +11,7 @@ use crate::pretty::row_form;
 use crate::{status_at, status_of, status_of_words};
 use command_line::WhyWords;
 use command_output::{AnyWriter, CommandFault, Ending};
-use due_model::config::{Config, ObjectId};
+use due_model::config::{Choices, Config, ObjectId};
 use due_model::limits::LAST_MOMENT;
 use due_model::zone::Zone;
 use given_times::moment_given;
@@ -48,11 +48,11 @@ struct Known {
 }
 
 /// The configuration of object text.
-fn config_of(alloc: Global, text: &[u8]) -> Result<Config, CommandFault>
+fn config_of(alloc: Global, choices: Choices, text: &[u8]) -> Result<Config, CommandFault>
     ensures { IfOk result IsAccepted }
 {
     let copy = Vec::from_slice(alloc, text)?;
-    Ok(load(alloc, copy)?)
+    Ok(load(alloc, choices, copy)?)
 }
 
 /// The number of the object of that name.
@@ -66,11 +66,16 @@ fn number_of(config: &Config, name: &str) -> Option<ObjectId> {
 }
 
 /// The configuration of the object text in a file, and the places for the object of that name; none where there is no such object.
-fn known_in(rt: &HostRuntime, objects: &str, name: &str) -> Result<Option<Known>, CommandFault>
+fn known_in(
+    rt: &HostRuntime,
+    choices: Choices,
+    objects: &str,
+    name: &str,
+) -> Result<Option<Known>, CommandFault>
     ensures { IfOk result (λ found. IfSome found (λ known. IsAccepted known.config)) }
 {
     let text = file_text(rt, objects)?;
-    let config = config_of(rt.alloc(), text.as_slice())?;
+    let config = config_of(rt.alloc(), choices, text.as_slice())?;
     let Some(number) = number_of(&config, name) else {
         return Ok(None);
     };
@@ -109,13 +114,14 @@ fn do_why(
 /// The same of the lines from one moment up to another, where the object is known.
 fn status_between(
     rt: &HostRuntime,
+    choices: Choices,
     zone: &Zone,
     objects: &str,
     words: WhyWords<'_>,
     from: u64,
     to: u64,
 ) -> ExitCode {
-    let known = match known_in(rt, objects, words.object) {
+    let known = match known_in(rt, choices, objects, words.object) {
         Ok(Some(known)) => known,
         Ok(None) => {
             let name = words.object;
@@ -138,6 +144,7 @@ fn status_between(
 /// Writes why messages about an object went to whom they did, and gives the exit status. Its times are looked at before anything else.
 pub(crate) fn status_of_why(
     rt: &HostRuntime,
+    choices: Choices,
     zone: &Zone,
     objects: &str,
     words: WhyWords<'_>,
@@ -150,5 +157,5 @@ pub(crate) fn status_of_why(
     let Some(to) = moment_or(zone, words.to, LAST_MOMENT) else {
         return status_of_words(rt, "bad time");
     };
-    status_between(rt, zone, objects, words, from, to)
+    status_between(rt, choices, zone, objects, words, from, to)
 }

@@ -59,7 +59,7 @@ fn zone_named(rt: &HostRuntime, name: &str) -> Result<Zone, ZoneFault> {
 
 /// The zone that is asked for. A rule that is none may be the name of a zone, as `Europe/Berlin`: then it is that of the system's zone
 /// file of this name.
-pub(crate) fn zone_asked(rt: &HostRuntime, words: ZoneWords<'_>) -> Result<Zone, ZoneFault>
+pub(crate) fn zone_asked(rt: &HostRuntime, words: ZoneWords<'_, '_>) -> Result<Zone, ZoneFault>
     ensures two { AreTwo words.entry → result ≡ Err TwoZones }
     ensures rule { IsBadRule words.entry → result ≡ Err BadZone }
 {
@@ -74,7 +74,11 @@ pub(crate) fn zone_asked(rt: &HostRuntime, words: ZoneWords<'_>) -> Result<Zone,
 }
 
 /// Says on standard error why there is no zone, and gives the exit status.
-pub(crate) fn status_of_zone(rt: &HostRuntime, words: ZoneWords<'_>, fault: ZoneFault) -> ExitCode
+pub(crate) fn status_of_zone(
+    rt: &HostRuntime,
+    words: ZoneWords<'_, '_>,
+    fault: ZoneFault,
+) -> ExitCode
     ensures { exit_status result ≡ zone_fault_status fault }
 {
     match fault {
@@ -92,7 +96,7 @@ pub(crate) fn status_of_zone(rt: &HostRuntime, words: ZoneWords<'_>, fault: Zone
 }
 
 /// Says what was given for a zone, and what is wrong of it.
-fn say_bad_zone(rt: &HostRuntime, words: ZoneWords<'_>) {
+fn say_bad_zone(rt: &HostRuntime, words: ZoneWords<'_, '_>) {
     if let Some(path) = words.file {
         say_bad_file(rt, path);
         return;

@@ -1,8 +1,11 @@
 -- The contacts that blocks give (chapter "Object Definitions").
-use Rattle.std.specs.Prelude.{◌≡◌, ℕ, true, List, codes, map}
+use Rattle.std.specs.Prelude.{◌≡◌, ℕ, Bool, true, List, codes, map, if◌then◌else◌}
 use Rattle.std.specs.List.{AllZip}
 use Rattle.due_model.specs.declared.config.Contact as model
+use Rattle.due_model.specs.Options.{every_letter}
+use Rattle.due_model.specs.Rules.{no_letter}
 use Rattle.due_model.specs.declared.config.Rights.{Rights}
+use Rattle.due_model.specs.declared.options.OptionLetters.{OptionLetters}
 use Rattle.object_contacts.specs.Lanes.{AreLanes, NamesLane}
 use Rattle.object_contacts.specs.declared.rights.RightsKind.{RightsKind}
 use Rattle.object_contacts.specs.declared.rights.RightsKind.TheVariants.{OfHosts, OfServices}
@@ -11,7 +14,7 @@ use Rattle.object_contacts.specs.declared.contacts.ContactValues.{ContactValues}
 use Rattle.object_groups.specs.Objects.{list_at, name_at, names_in, objects_in}
 use Rattle.object_reader.specs.declared.block.Block.{Block}
 use Rattle.object_reader.specs.declared.block.BlockKind.TheVariants.{Command, Contact, TimePeriod}
-use Rattle.object_listing.specs.Readings.{is_on, letters_at, period_at}
+use Rattle.object_listing.specs.Readings.{is_on, letters_or, period_at}
 use Rattle.object_values.specs.declared.options.OptionKind.{OptionKind}
 use Rattle.object_values.specs.declared.options.OptionKind.TheVariants.{Host, Service}
 
@@ -40,13 +43,19 @@ option_kind OfServices = Service
 
 -- ---- contacts
 
--- The rights of the contact whose block stands at the place, for one kind of object. They are enabled, have
--- every letter, and hold always, where it doesn't say. Their lanes are those that its list of commands
+-- The letters of a contact that lists no options, by this project's rule (it is told of everything) or the daemon's (of
+-- nothing).
+abbrev pub letters_unlisted : (daemons : Bool) → OptionLetters
+letters_unlisted daemons = if daemons then no_letter else every_letter
+
+-- The rights of the contact whose block stands at the place, for one kind of object. They are enabled, and hold
+-- always, where it doesn't say; where it lists no options they have what the rule says. Their lanes are those that its list of commands
 -- names, each once and in order.
-pub record AreRightsOf (blocks : List Block) (lane_commands : List ℕ) (kind : RightsKind)
-    (place : ℕ) (rights : Rights) : Type 0 where
+pub record AreRightsOf (daemons : Bool) (blocks : List Block) (lane_commands : List ℕ)
+    (kind : RightsKind) (place : ℕ) (rights : Rights) : Type 0 where
   pub enabled : rights.enabled ≡ is_on blocks (enabled_directive kind) true place
-  pub options : rights.options ≡ letters_at blocks (options_directive kind) (option_kind kind) place
+  pub options : rights.options ≡ letters_or blocks (options_directive kind) (option_kind kind)
+      (letters_unlisted daemons) place
   pub period : rights.period
       ≡ period_at (names_in blocks TimePeriod) blocks (period_directive kind) place
   pub lanes : AreLanes
@@ -55,17 +64,18 @@ pub record AreRightsOf (blocks : List Block) (lane_commands : List ℕ) (kind : 
       (map (λ lane. lane.0) rights.lanes)
 
 -- the contact of the block at a place
-pub record IsContactOf (blocks : List Block) (lane_commands : List ℕ) (place : ℕ)
+pub record IsContactOf (daemons : Bool) (blocks : List Block) (lane_commands : List ℕ) (place : ℕ)
     (contact : model.Contact) : Type 0 where
   pub name : contact.name ≡ name_at blocks Contact place
-  pub hosts : AreRightsOf blocks lane_commands OfHosts place contact.hosts
-  pub services : AreRightsOf blocks lane_commands OfServices place contact.services
+  pub hosts : AreRightsOf daemons blocks lane_commands OfHosts place contact.hosts
+  pub services : AreRightsOf daemons blocks lane_commands OfServices place contact.services
 
 -- The contacts are those of the registered blocks, in file order, where `lane_commands` are the commands
--- of the lanes.
-abbrev pub AreContactsOf : List Block → (lane_commands : List ℕ) → List model.Contact → Type 0
-AreContactsOf blocks lane_commands contacts =
-    AllZip (IsContactOf blocks lane_commands) (objects_in blocks Contact) contacts
+-- of the lanes; what one has that lists no options, by this project's rule or the daemon's.
+abbrev pub AreContactsOf : (daemons : Bool) → List Block → (lane_commands : List ℕ)
+    → List model.Contact → Type 0
+AreContactsOf daemons blocks lane_commands contacts =
+    AllZip (IsContactOf daemons blocks lane_commands) (objects_in blocks Contact) contacts
 
 -- ---- how they are kept
 

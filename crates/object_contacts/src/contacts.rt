@@ -31,10 +31,12 @@ impl<'a> ContactValues<'a> {
         })
     }
 
-    /// The contact of that name, whose block stands at the place.
+    /// The contact of that name, whose block stands at the place; what it has where it lists no options, by this project's
+    /// rule or the daemon's.
     fn contact_at(
         &self,
         alloc: Global,
+        daemons: bool,
         name: &[u8],
         periods: &Objects<'a>,
         commands: &Objects<'a>,
@@ -49,7 +51,7 @@ impl<'a> ContactValues<'a> {
         requires few_periods { length (names_in commands.now.blocks blocks.TimePeriod)
             ≤ max_periods }
         requires few_lanes { length lanes.now ≤ max_lanes }
-        ensures { IfOk result (IsContactOf commands.now.blocks lanes.now place) }
+        ensures { IfOk result (IsContactOf daemons commands.now.blocks lanes.now place) }
     {
         let of_hosts = RightsKind::OfHosts;
         let of_services = RightsKind::OfServices;
@@ -57,21 +59,28 @@ impl<'a> ContactValues<'a> {
             name: text_of(alloc, name)?,
             hosts: self
                 .hosts
-                .rights_at(alloc, of_hosts, periods, commands, lanes, place)?,
-            services: self
-                .services
-                .rights_at(alloc, of_services, periods, commands, lanes, place)?,
+                .rights_at(alloc, daemons, of_hosts, periods, commands, lanes, place)?,
+            services: self.services.rights_at(
+                alloc,
+                daemons,
+                of_services,
+                periods,
+                commands,
+                lanes,
+                place,
+            )?,
         })
     }
 }
 
 /// The contacts, in file order, where `lanes` are the commands of the lanes, by their numbers among the commands:
-/// the name of each, and for hosts and for services whether it is notified, of what, when, and by which lanes. `contacts`,
-/// `commands` and `periods` are those of the same blocks. The time grows with the blocks, their directives, the
+/// the name of each, and for hosts and for services whether it is notified, of what, when, and by which lanes. One that lists no
+/// options is notified of everything, or by the daemon's rule of nothing. `contacts`, `commands` and `periods` are those of the same blocks. The time grows with the blocks, their directives, the
 /// templates that they use, and the entries of the contacts' lists; for each entry at most 16 lanes are looked at. It takes
 /// some 256 bytes a block while it runs. A refused growth leaves nothing.
 pub fn contacts_of<'a>(
     alloc: Global,
+    daemons: bool,
     templates: &Templates<'a>,
     contacts: &Objects<'a>,
     commands: &Objects<'a>,
@@ -83,14 +92,14 @@ pub fn contacts_of<'a>(
     requires periods { periods.now ≡ record { blocks = templates.now; kind = blocks.TimePeriod } }
     requires few_periods { length (names_in templates.now blocks.TimePeriod) ≤ max_periods }
     requires few_lanes { length lanes.now ≤ max_lanes }
-    ensures { IfOk result (λ made. AreContactsOf templates.now lanes.now made.items) }
+    ensures { IfOk result (λ made. AreContactsOf daemons templates.now lanes.now made.items) }
 {
     let values = ContactValues::new(alloc, templates)?;
     let names = contacts.names();
     let mut made = Vec::new(alloc);
     for (number, place) in contacts.places().iter().enumerate() {
         let name = names.name(number);
-        let contact = values.contact_at(alloc, name, periods, commands, lanes, *place)?;
+        let contact = values.contact_at(alloc, daemons, name, periods, commands, lanes, *place)?;
         made.push(contact)?;
     }
     Ok(made)

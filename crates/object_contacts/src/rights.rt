@@ -3,8 +3,8 @@
 ghost use Rattle.std.specs.Prelude.{◌≡◌, ◌≤◌, ◌<◌, length, map, IfOk, IfSome};
 ghost use Rattle.due_model.specs.Limits.{max_lanes, max_periods};
 ghost use Rattle.object_contacts.specs.Contacts.{AreRightsOf, AreRightsValues, commands_directive};
-ghost use Rattle.object_contacts.specs.Contacts.{enabled_directive, option_kind, options_directive};
-ghost use Rattle.object_contacts.specs.Contacts.{period_directive};
+ghost use Rattle.object_contacts.specs.Contacts.{enabled_directive, letters_unlisted, option_kind};
+ghost use Rattle.object_contacts.specs.Contacts.{options_directive, period_directive};
 ghost use Rattle.object_contacts.specs.Lanes.{AreLanes, lane_named, lane_of, NamesLane};
 ghost use Rattle.object_contacts.specs.Marks.{Marks};
 ghost use Rattle.object_groups.specs.Objects.{names_in};
@@ -14,12 +14,13 @@ ghost use Rattle.object_values.specs.Values.{texts};
 use crate::lanes::command_named;
 use crate::marks::{lane_ids, mark, marked_numbers};
 use due_model::config::{LaneId, Rights};
+use due_model::options::OptionLetters;
 use due_model::sequence::Sequence;
 use object_groups::names::Names;
 use object_groups::objects::{Objects, list_at};
 use object_inheritance::inherited::Values;
 use object_inheritance::templates::Templates;
-use object_listing::readings::{is_on, letters_at, period_at};
+use object_listing::readings::{is_on, letters_or, period_at};
 use object_values::options::OptionKind;
 use std::alloc::{AllocError, Global};
 
@@ -79,6 +80,17 @@ fn option_kind(kind: RightsKind) -> OptionKind
     match kind {
         RightsKind::OfHosts => OptionKind::Host,
         RightsKind::OfServices => OptionKind::Service,
+    }
+}
+
+/// The letters of a contact that lists no options, by this project's rule or the daemon's.
+fn letters_unlisted(daemons: bool) -> OptionLetters
+    ensures { result ≡ letters_unlisted daemons }
+{
+    if daemons {
+        OptionLetters::NONE
+    } else {
+        OptionLetters::ALL
     }
 }
 
@@ -156,11 +168,12 @@ impl<'a> RightsValues<'a> {
         })
     }
 
-    /// The rights of the contact whose block stands at the place, where `lanes` are the commands of the lanes. A
-    /// refused growth leaves nothing.
+    /// The rights of the contact whose block stands at the place, where `lanes` are the commands of the lanes; what it has
+    /// where it lists no options, by this project's rule or the daemon's. A refused growth leaves nothing.
     pub(crate) fn rights_at(
         &self,
         alloc: Global,
+        daemons: bool,
         kind: RightsKind,
         periods: &Objects<'a>,
         commands: &Objects<'a>,
@@ -173,13 +186,18 @@ impl<'a> RightsValues<'a> {
             ≡ record { blocks = commands.now.blocks; kind = TimePeriod } }
         requires few_periods { length (names_in commands.now.blocks TimePeriod) ≤ max_periods }
         requires few_lanes { length lanes.now ≤ max_lanes }
-        ensures { IfOk result (AreRightsOf commands.now.blocks lanes.now kind place) }
+        ensures { IfOk result (AreRightsOf daemons commands.now.blocks lanes.now kind place) }
     {
         let entries = list_at(alloc, &self.commands, place)?;
         let listed = lanes_listed(alloc, commands.names(), lanes, entries.as_slice())?;
         Ok(Rights {
             enabled: is_on(&self.enabled, true, place),
-            options: letters_at(&self.options, option_kind(kind), place),
+            options: letters_or(
+                &self.options,
+                option_kind(kind),
+                letters_unlisted(daemons),
+                place,
+            ),
             period: period_at(periods.names(), &self.period, place),
             lanes: Sequence::new(listed),
         })

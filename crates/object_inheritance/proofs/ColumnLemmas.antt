@@ -1,5 +1,5 @@
 -- What is kept of each block, by what is kept of the templates that it uses.
-use Rattle.std.proofs.Common.{◌≡◌, ℕ, zero, suc, ◌+◌, ◌<◌, ◌≤◌, Bool, true, false, cond, List, [], ◌∷◌, ◌++◌, append_assoc, length, map, drop, take, get_or, set, Option, Some, None, refl, sym, ap, subst, eqb, eq-eqb, inl, inr, ⊎_elim, ◌∙◌, Bor, arith}
+use Rattle.std.proofs.Common.{◌≡◌, ℕ, zero, suc, ◌+◌, ◌^◌, ◌<◌, ◌≤◌, Bool, true, false, cond, List, [], ◌∷◌, ◌++◌, append_assoc, length, map, drop, take, get_or, set, Option, Some, None, refl, sym, ap, subst, eqb, eq-eqb, inl, inr, ⊎_elim, ◌∙◌, Bor, arith}
 use Rattle.std.specs.Prelude.{All, Contains, find, IfSome, is_some, reverse, slice_get, unwrap_or}
 use Rattle.std.specs.Option.{option_and_then, option_map, option_to_list}
 use Rattle.std.proofs.lemmas.Bool.{cases_eq, cases_lt, false≢true, ne_eqb}
@@ -8,7 +8,9 @@ use Rattle.std.proofs.lemmas.List.{append-nil, get_or_past, get_or-set_other, ge
 use Rattle.graph.specs.Edges.{Leads}
 use Rattle.graph_order.specs.Order.{IsOrder}
 use Rattle.object_reader.specs.declared.block.Block.{Block}
-use Rattle.object_inheritance.specs.Columns.{given_from, HasGiven, HasGivenFrom, HasOwn, IsGivenAt, IsInherited, IsNext, IsOwn, line_of}
+use Rattle.object_inheritance.specs.declared.templates.Uses.{Uses}
+use Rattle.object_inheritance.specs.Faults.{AreUses, is_used}
+use Rattle.object_inheritance.specs.Columns.{given_from, HasGiven, HasGivenFrom, HasKept, HasOwn, HasUsed, IsGivenAt, IsInherited, IsNext, IsOwn, line_of}
 use Rattle.object_inheritance.specs.Givers.{last_at, text_at}
 use Rattle.object_inheritance.specs.Inherited.{AreInherited, first_given, given, own, own_entries, is_additive, joined_entries, list_given, sources, stays, value}
 use Rattle.object_inheritance.specs.Templates.{template_graph}
@@ -184,75 +186,149 @@ nothing-given blocks directive column is none = record {
 
 -- ---- along the order, from its end
 
-module _ (blocks : List Block) (directive order : List ℕ) where
-  used-done : (i : ℕ) (column : List (Option Given)) → i < length order → IsOrder (template_graph blocks) order
-      → HasGivenFrom blocks directive order (i + 1) column
-      → (q : ℕ) → Leads (template_graph blocks) (get_or order i 0) q → IsGivenAt blocks directive q (get_or column q None)
-  used-done i column low ordered has q leads =
-      let at = ordered.each q (subst (λ (n : ℕ). q < n) (sym (graph-long blocks)) (leads-within blocks (get_or order i 0) q leads)) in
-      let here : get_or order at.0 0 ≡ q = sym (get_or_default_zero order at.0 q at.1) ∙ at.2 in
-      let later : i < at.0 = ordered.forward i at.0 low at.1 (subst (λ (k : ℕ). Leads (template_graph blocks) (get_or order i 0) k) (sym here) leads) in
-      subst (λ (k : ℕ). IsGivenAt blocks directive k (get_or column k None)) here (has.done at.0 (omega (arith, later)) at.1)
+module _ (blocks : List Block) (directive : List ℕ) (uses : Uses) (are : AreUses blocks uses) where
+  uses-order : IsOrder (template_graph blocks) uses.order.items
+  uses-order = subst (λ (graph : List (List ℕ)). IsOrder graph uses.order.items) are.same are.ordered
 
-  next-is : (i : ℕ) (column : List (Option Given)) → i < length order → IsOrder (template_graph blocks) order → IsInherited blocks directive
-      → HasGivenFrom blocks directive order (i + 1) column → IsNext blocks directive column (get_or order i 0)
-  next-is i column low ordered inherited has = record {
+  uses-marked : (p q : ℕ) → Leads (template_graph blocks) p q → is_used uses q ≡ true
+  uses-marked p q leads = are.marked p q (subst (λ (graph : List (List ℕ)). Leads graph p q) (sym are.same) leads)
+
+  used-done : (i : ℕ) (column : List (Option Given)) → i < length uses.order.items → HasGivenFrom blocks directive uses (i + 1) column
+      → (q : ℕ) → Leads (template_graph blocks) (get_or uses.order.items i 0) q → IsGivenAt blocks directive q (get_or column q None)
+  used-done i column low has q leads =
+      let order = uses.order.items in
+      let at = uses-order.each q (subst (λ (n : ℕ). q < n) (sym (graph-long blocks)) (leads-within blocks (get_or order i 0) q leads)) in
+      let here : get_or order at.0 0 ≡ q = sym (get_or_default_zero order at.0 q at.1) ∙ at.2 in
+      let later : i < at.0 = uses-order.forward i at.0 low at.1 (subst (λ (k : ℕ). Leads (template_graph blocks) (get_or order i 0) k) (sym here) leads) in
+      subst (λ (k : ℕ). IsGivenAt blocks directive k (get_or column k None)) here
+      (has.done at.0 (omega (arith, later)) at.1 (ap (λ (k : ℕ). is_used uses k) here ∙ uses-marked (get_or order i 0) q leads))
+
+  next-is : (i : ℕ) (column : List (Option Given)) → i < length uses.order.items → IsInherited blocks directive
+      → HasGivenFrom blocks directive uses (i + 1) column → IsNext blocks directive column (get_or uses.order.items i 0)
+  next-is i column low inherited has = record {
     inherited = inherited;
     gives = has.ahead i (omega arith);
-    used = used-done i column low ordered has;
+    used = used-done i column low has;
   }
 
-  one-kept : (i : ℕ) (column : List (Option Given)) (kept : Option Given) → i < length order → length column ≡ length blocks → IsOrder (template_graph blocks) order
-      → HasGivenFrom blocks directive order (i + 1) column → IsGivenAt blocks directive (get_or order i 0) kept
-      → HasGivenFrom blocks directive order i (set column (get_or order i 0) kept)
-  one-kept i column kept low long ordered has here = record {
-    ahead = λ j before.
-        subst (λ (x : Option Given). IsOwn blocks (get_or order j 0) (own blocks directive (get_or order j 0)) x)
-        (sym (get_or-set_other column (get_or order i 0) (get_or order j 0) kept None (ordered.once j i 0 before low)))
-        (has.ahead j (omega (arith, before)));
-    done = λ j from inside. ⊎_elim
-        (λ (later : i < j).
-        subst (λ (x : Option Given). IsGivenAt blocks directive (get_or order j 0) x)
-        (sym (get_or-set_other column (get_or order i 0) (get_or order j 0) kept None (λ same. ordered.once i j 0 later inside (sym same))))
-        (has.done j (omega (arith, later)) inside))
+  one-kept : (i : ℕ) (column : List (Option Given)) (kept : Option Given) → i < length uses.order.items → length column ≡ length blocks
+      → is_used uses (get_or uses.order.items i 0) ≡ true
+      → HasGivenFrom blocks directive uses (i + 1) column → IsGivenAt blocks directive (get_or uses.order.items i 0) kept
+      → HasGivenFrom blocks directive uses i (set column (get_or uses.order.items i 0) kept)
+  one-kept i column kept low long marked has here =
+      let order = uses.order.items in
+      record {
+        ahead = λ j before.
+            subst (λ (x : Option Given). IsOwn blocks (get_or order j 0) (own blocks directive (get_or order j 0)) x)
+            (sym (get_or-set_other column (get_or order i 0) (get_or order j 0) kept None (uses-order.once j i 0 before low)))
+            (has.ahead j (omega (arith, before)));
+        done = λ j from inside used. ⊎_elim
+            (λ (later : i < j).
+            subst (λ (x : Option Given). IsGivenAt blocks directive (get_or order j 0) x)
+            (sym (get_or-set_other column (get_or order i 0) (get_or order j 0) kept None (λ same. uses-order.once i j 0 later inside (sym same))))
+            (has.done j (omega (arith, later)) inside used))
+            (λ (back : j ≤ i).
+            let same : i ≡ j = omega (arith, back, from) in
+            subst (λ (k : ℕ). IsGivenAt blocks directive (get_or order k 0) (get_or (set column (get_or order i 0) kept) (get_or order k 0) None)) same
+            (subst (λ (x : Option Given). IsGivenAt blocks directive (get_or order i 0) x)
+            (sym (get_or-set_same column (get_or order i 0) kept None
+            (subst (λ (n : ℕ). get_or order i 0 < n) (graph-long blocks ∙ sym long) (uses-order.within i 0 low)))) here))
+            (cases_lt i j);
+        rest = λ place unused.
+            subst (λ (x : Option Given). IsOwn blocks place (own blocks directive place) x)
+            (sym (get_or-set_other column (get_or order i 0) place kept None
+            (λ (same : place ≡ get_or order i 0). false≢true (sym unused ∙ ap (λ (k : ℕ). is_used uses k) same ∙ marked))))
+            (has.rest place unused);
+      }
+
+  -- one block more that others use, from the end of the order
+  pub one-more : (i left : ℕ) (column seen : List (Option Given)) (kept : Option Given) → left ≡ i + 1 → i < length uses.order.items → length column ≡ length blocks
+      → is_used uses (get_or uses.order.items i 0) ≡ true
+      → IsInherited blocks directive → HasGivenFrom blocks directive uses left column → seen ≡ column
+      → (IsNext blocks directive seen (get_or uses.order.items i 0) → IsGivenAt blocks directive (get_or uses.order.items i 0) kept)
+      → HasGivenFrom blocks directive uses i (set column (get_or uses.order.items i 0) kept)
+  one-more i left column seen kept is low long marked inherited has same step =
+      let all = subst (λ (n : ℕ). HasGivenFrom blocks directive uses n column) is has in
+      one-kept i column kept low long marked all
+      (step (subst (λ (xs : List (Option Given)). IsNext blocks directive xs (get_or uses.order.items i 0)) (sym same) (next-is i column low inherited all)))
+
+  -- one block more that no other uses
+  pub one-passed : (i left : ℕ) (column : List (Option Given)) → left ≡ i + 1 → is_used uses (get_or uses.order.items i 0) ≡ false
+      → HasGivenFrom blocks directive uses left column → HasGivenFrom blocks directive uses i column
+  one-passed i left column is unused has = record {
+    ahead = λ j before. has.ahead j (omega (arith, before, is));
+    done = λ j from inside used. ⊎_elim
+        (λ (later : i < j). has.done j (omega (arith, later, is)) inside used)
         (λ (back : j ≤ i).
-        let same : i ≡ j = omega (arith, back, from) in
-        subst (λ (k : ℕ). IsGivenAt blocks directive (get_or order k 0) (get_or (set column (get_or order i 0) kept) (get_or order k 0) None)) same
-        (subst (λ (x : Option Given). IsGivenAt blocks directive (get_or order i 0) x)
-        (sym (get_or-set_same column (get_or order i 0) kept None
-        (subst (λ (n : ℕ). get_or order i 0 < n) (graph-long blocks ∙ sym long) (ordered.within i 0 low)))) here))
+        let same : j ≡ i = omega (arith, back, from) in
+        absurd (false≢true (sym unused ∙ ap (λ (k : ℕ). is_used uses (get_or uses.order.items k 0)) (sym same) ∙ used)))
         (cases_lt i j);
+    rest = has.rest;
   }
 
-  -- one block more, from the end of the order
-  pub one-more : (i left : ℕ) (column seen : List (Option Given)) (kept : Option Given) → left ≡ i + 1 → i < length order → length column ≡ length blocks
-      → IsOrder (template_graph blocks) order → IsInherited blocks directive → HasGivenFrom blocks directive order left column → seen ≡ column
-      → (IsNext blocks directive seen (get_or order i 0) → IsGivenAt blocks directive (get_or order i 0) kept)
-      → HasGivenFrom blocks directive order i (set column (get_or order i 0) kept)
-  one-more i left column seen kept is low long ordered inherited has same step =
-      let all = subst (λ (n : ℕ). HasGivenFrom blocks directive order n column) is has in
-      one-kept i column kept low long ordered all
-      (step (subst (λ (xs : List (Option Given)). IsNext blocks directive xs (get_or order i 0)) (sym same) (next-is i column low ordered inherited all)))
+  -- at the end of the order nothing is done yet
+  pub none-yet : (left : ℕ) (column : List (Option Given)) → left ≡ length uses.order.items → HasOwn blocks directive column
+      → HasGivenFrom blocks directive uses left column
+  none-yet left column is has = record {
+    ahead = λ j _. has.each (get_or uses.order.items j 0);
+    done = λ j from inside _. absurd (omega (arith, from, inside, is));
+    rest = λ place _. has.each place;
+  }
 
-  pub all-done : (left : ℕ) (column : List (Option Given)) → left ≡ 0 → length column ≡ length blocks → IsOrder (template_graph blocks) order
-      → HasGivenFrom blocks directive order left column → HasGiven blocks directive column
-  all-done left column none long ordered has = record {
-    each = λ place. ⊎_elim
+  pub all-used : (column : List (Option Given)) → length blocks < 2 ^ 32 → length column ≡ length blocks → IsInherited blocks directive
+      → HasGivenFrom blocks directive uses 0 column → HasUsed blocks directive uses column
+  all-used column few long inherited has = record {
+    inherited = inherited;
+    using = are;
+    few = few;
+    long = long;
+    done = λ place used. ⊎_elim
         (λ (low : place < length blocks).
-        let at = ordered.each place (subst (λ (n : ℕ). place < n) (sym (graph-long blocks)) low) in
-        let here : get_or order at.0 0 ≡ place = sym (get_or_default_zero order at.0 place at.1) ∙ at.2 in
-        subst (λ (k : ℕ). IsGivenAt blocks directive k (get_or column k None)) here (has.done at.0 (omega (arith, none)) at.1))
+        let at = uses-order.each place (subst (λ (n : ℕ). place < n) (sym (graph-long blocks)) low) in
+        let here : get_or uses.order.items at.0 0 ≡ place = sym (get_or_default_zero uses.order.items at.0 place at.1) ∙ at.2 in
+        subst (λ (k : ℕ). IsGivenAt blocks directive k (get_or column k None)) here
+        (has.done at.0 (omega arith) at.1 (ap (λ (k : ℕ). is_used uses k) here ∙ used)))
         (λ (past : length blocks ≤ place).
         none-kept blocks directive place (get_or column place None) (given-past blocks directive place past) (get_or_past column place None (omega (arith, long, past))))
         (cases_lt place (length blocks));
+    rest = has.rest;
   }
+
+-- ---- what is asked of a block
+
+-- past the column nothing is given
+pub kept-past : (blocks : List Block) (directive : List ℕ) (uses : Option Uses) (column : List (Option Given)) (place : ℕ) → HasKept blocks directive uses column
+    → length column ≤ place → IsGivenAt blocks directive place None
+kept-past blocks directive None column place has past =
+    subst (λ (kept : Option Given). IsGivenAt blocks directive place kept) (get_or_past column place None past) (has.each place)
+kept-past blocks directive (Some uses) column place has past =
+    none-kept blocks directive place None (given-past blocks directive place (omega (arith, past, has.long))) refl
+
+-- where all is kept
+pub kept-all : (blocks : List Block) (directive : List ℕ) (uses : Option Uses) (column : List (Option Given)) (place : ℕ) → HasKept blocks directive uses column
+    → uses ≡ None → IsGivenAt blocks directive place (get_or column place None)
+kept-all blocks directive uses column place has none = (subst (λ (found : Option Uses). HasKept blocks directive found column) none has).each place
+
+-- where it is kept of blocks alone that others use
+pub kept-some : (blocks : List Block) (directive : List ℕ) (uses : Option Uses) (one : Uses) (column : List (Option Given)) → HasKept blocks directive uses column
+    → uses ≡ Some one → HasUsed blocks directive one column
+kept-some blocks directive uses one column has some = subst (λ (found : Option Uses). HasKept blocks directive found column) some has
+
+-- a block that no other uses
+pub next-asked : (blocks : List Block) (directive : List ℕ) (uses : Uses) (column : List (Option Given)) (place : ℕ) → HasUsed blocks directive uses column
+    → is_used uses place ≡ false → IsNext blocks directive column place
+next-asked blocks directive uses column place has unused = record {
+  inherited = has.inherited;
+  gives = has.rest place unused;
+  used = λ q leads. has.done q (uses-marked blocks directive uses has.using place q leads);
+}
 
 -- ---- where it comes from
 
 -- past the column is a block to which nothing is given
-pub past-none : (blocks : List Block) (directive : List ℕ) (column : List (Option Given)) → HasGiven blocks directive column → given blocks directive (length column) ≡ []
-past-none blocks directive column has =
-    (has.each (length column)).line ∙ ap (line_of blocks directive) (get_or_past column (length column) None (omega arith))
+pub past-none : (blocks : List Block) (directive : List ℕ) (uses : Option Uses) (column : List (Option Given)) → HasKept blocks directive uses column
+    → given blocks directive (length column) ≡ []
+past-none blocks directive uses column has = (kept-past blocks directive uses column (length column) has (omega arith)).line
 
 -- a block to which nothing is given gives nothing itself
 pub none-given : (blocks : List Block) (directive : List ℕ) (place : ℕ) → given blocks directive place ≡ [] → own blocks directive place ≡ None

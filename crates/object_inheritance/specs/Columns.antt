@@ -1,9 +1,11 @@
 -- How it is kept what all blocks have for one directive.
-use Rattle.std.specs.Prelude.{◌≡◌, ℕ, ◌<◌, ◌≤◌, false, List, [], ◌∷◌, length, Option, None, Some, IfSome, slice_index, slice_index_or}
+use Rattle.std.specs.Prelude.{◌≡◌, ℕ, ◌<◌, ◌≤◌, ◌^◌, false, true, List, [], ◌∷◌, length, Option, None, Some, IfSome, slice_index, slice_index_or}
 use Rattle.std.specs.Option.{option_and_then, option_map}
 use Rattle.graph.specs.Edges.{Leads}
 use Rattle.object_reader.specs.declared.block.Block.{Block}
 use Rattle.object_inheritance.specs.declared.inherited.Given.{Given}
+use Rattle.object_inheritance.specs.declared.templates.Uses.{Uses}
+use Rattle.object_inheritance.specs.Faults.{AreUses, is_used}
 use Rattle.object_inheritance.specs.Givers.{text_at}
 use Rattle.object_inheritance.specs.Inherited.{AreInherited, given, own, stays}
 use Rattle.object_inheritance.specs.Templates.{template_graph}
@@ -52,16 +54,19 @@ pub record HasGiven (blocks : List Block) (directive : List ℕ)
     (column : List (Option Given)) : Type 0 where
   pub each : (place : ℕ) → IsGivenAt blocks directive place (slice_index_or column place None)
 
--- the column has what is given to the blocks from the place `left` of the order on, and what those before it
+-- the column has what is given to the blocks that others use, from the place `left` of the order on, and what all others
 -- give themselves
-pub record HasGivenFrom (blocks : List Block) (directive : List ℕ) (order : List ℕ) (left : ℕ)
+pub record HasGivenFrom (blocks : List Block) (directive : List ℕ) (uses : Uses) (left : ℕ)
     (column : List (Option Given)) : Type 0 where
-  pub ahead : (j : ℕ) → j < left → IsOwn blocks (slice_index order j)
-      (own blocks directive (slice_index order j))
-      (slice_index_or column (slice_index order j) None)
-  pub done : (j : ℕ) → left ≤ j → j < length order
-      → IsGivenAt blocks directive (slice_index order j)
-      (slice_index_or column (slice_index order j) None)
+  pub ahead : (j : ℕ) → j < left → IsOwn blocks (slice_index uses.order.items j)
+      (own blocks directive (slice_index uses.order.items j))
+      (slice_index_or column (slice_index uses.order.items j) None)
+  pub done : (j : ℕ) → left ≤ j → j < length uses.order.items
+      → is_used uses (slice_index uses.order.items j) ≡ true
+      → IsGivenAt blocks directive (slice_index uses.order.items j)
+      (slice_index_or column (slice_index uses.order.items j) None)
+  pub rest : (place : ℕ) → is_used uses place ≡ false
+      → IsOwn blocks place (own blocks directive place) (slice_index_or column place None)
 
 -- a directive that blocks take from templates
 pub record IsInherited (blocks : List Block) (directive : List ℕ) : Type 0 where
@@ -75,3 +80,20 @@ pub record IsNext (blocks : List Block) (directive : List ℕ) (column : List (O
   pub gives : IsOwn blocks place (own blocks directive place) (slice_index_or column place None)
   pub used : (q : ℕ) → Leads (template_graph blocks) place q
       → IsGivenAt blocks directive q (slice_index_or column q None)
+
+-- the column has what is given to each block that others use, and what each of the rest gives itself
+pub record HasUsed (blocks : List Block) (directive : List ℕ) (uses : Uses)
+    (column : List (Option Given)) : Type 0 where
+  pub inherited : IsInherited blocks directive
+  pub using : AreUses blocks uses
+  pub few : length blocks < 2 ^ 32
+  pub long : length column ≡ length blocks
+  pub done : (place : ℕ) → is_used uses place ≡ true
+      → IsGivenAt blocks directive place (slice_index_or column place None)
+  pub rest : (place : ℕ) → is_used uses place ≡ false
+      → IsOwn blocks place (own blocks directive place) (slice_index_or column place None)
+
+-- the column has what is given to each block, or, with the templates, to each that others use
+abbrev pub HasKept : List Block → List ℕ → Option Uses → List (Option Given) → Type 0
+HasKept blocks directive None column = HasGiven blocks directive column
+HasKept blocks directive (Some uses) column = HasUsed blocks directive uses column

@@ -1,5 +1,5 @@
 -- The faults of templates: which block has the first.
-use Rattle.std.specs.Prelude.{◌≡◌, ℕ, ◌<◌, ◌↔◌, Bool, false, nat_lt, IsTrue, List, Option, None, Some, is_none, slice_get, if◌then◌else◌}
+use Rattle.std.specs.Prelude.{◌≡◌, ℕ, ◌<◌, ◌^◌, ◌↔◌, Bool, false, true, nat_lt, IsTrue, List, length, Option, None, Some, is_none, slice_get, slice_index_or, if◌then◌else◌}
 use Rattle.std.specs.List.{list_any}
 use Rattle.std.specs.Option.{option_map_or}
 use Rattle.graph.specs.Chains.{IsOnLoop}
@@ -67,12 +67,19 @@ abbrev pub IsRefusal : List Block → InheritanceFault → Type 0
 IsRefusal blocks (AtLine line fault) = IsFirstFault blocks line fault
 IsRefusal blocks NoMemory = Unit {0}
 
--- which templates each block uses, and an order in which each block stands before those that it uses
+-- whether a block is marked as used; what is no block is
+abbrev pub is_used : Uses → ℕ → Bool
+is_used uses place = slice_index_or uses.used.items place true
+
+-- which templates each block uses, an order in which each block stands before those that it uses, and a mark of each that
+-- is used
 pub record AreUses (blocks : List Block) (uses : Uses) : Type 0 where
   pub same : uses.graph ≡ template_graph blocks
   pub ordered : IsOrder uses.graph uses.order.items
+  pub marked : (p q : ℕ) → Leads uses.graph p q → is_used uses q ≡ true
 
 -- the same, and the blocks of which it is kept what each gives itself
 pub record AreTemplates (blocks : List Block) (uses : Uses) (givers : List Block) : Type 0 where
   pub using : AreUses blocks uses
   pub giving : givers ≡ blocks
+  pub few : length blocks < 2 ^ 32

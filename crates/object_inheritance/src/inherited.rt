@@ -6,8 +6,11 @@ ghost use Rattle.std.specs.Prelude.{is_some};
 ghost use Rattle.std.specs.Prelude.{reverse, slice_index_or, All, IfOk, IfSome, OnOk};
 ghost use Rattle.std.specs.Prelude.{if◌then◌else◌};
 ghost use Rattle.std.specs.Option.{option_copied, option_map};
-ghost use Rattle.object_inheritance.specs.Columns.{given_from, HasGiven, HasOwn, IsGivenAt};
-ghost use Rattle.object_inheritance.specs.Columns.{IsInherited};
+ghost use Rattle.std.specs.Arc.{arc_value};
+ghost use Rattle.object_inheritance.specs.Columns.{given_from, HasGivenFrom, HasKept, HasOwn};
+ghost use Rattle.object_inheritance.specs.Columns.{IsGivenAt, IsInherited};
+ghost use Rattle.object_inheritance.specs.Faults.{AreUses};
+ghost use Rattle.object_inheritance.specs.Templates.{template_graph};
 ghost use Rattle.object_inheritance.specs.Columns.{IsNext, IsOwn, line_of};
 ghost use Rattle.object_inheritance.specs.Givers.{last_at, text_at};
 ghost use Rattle.object_inheritance.specs.Inherited.{beside, given, has_any, has_entries};
@@ -18,11 +21,12 @@ ghost use Rattle.object_inheritance.specs.Inherited.{stays, value};
 ghost use Rattle.object_values.specs.Values.{entries, texts};
 
 use crate::givers::OwnText;
-use crate::templates::Templates;
+use crate::templates::{Templates, Uses};
 use object_reader::block::Block;
 use object_values::values::{entries, equals};
 use std::alloc::{AllocError, Global};
 use std::marker::Model;
+use std::sync::Arc;
 
 /// Whether a directive isn't inherited.
 fn stays(directive: &[u8]) -> bool
@@ -153,14 +157,14 @@ fn own_column(
 
 /// What is given to the block at the place, where the column has what it gives itself, and what is given to
 /// the templates that it uses.
-fn given_at(templates: &Templates, column: &[Option<Given>], place: u32) -> Option<Given>
-    requires within { place < length templates.now }
-    requires long { length column.now ≡ length templates.now }
-    ensures { (directive : List ℕ) → IsNext templates.now directive column.now place
-        → IsGivenAt templates.now directive place result }
+fn given_at(uses: &Uses, column: &[Option<Given>], place: u32) -> Option<Given>
+    requires within { place < length uses.now.graph }
+    requires long { length column.now ≡ length uses.now.graph }
+    ensures { (blocks : List Block) (directive : List ℕ)
+        → uses.now.graph ≡ template_graph blocks → IsNext blocks directive column.now place
+        → IsGivenAt blocks directive place result }
 {
-    let graph = templates.graph();
-    let further = first_with(column, graph.ends(place));
+    let further = first_with(column, uses.graph().ends(place));
     match column[place as usize] {
         Some(own) => Some(Given { further, ..own }),
         None => match further {
@@ -170,41 +174,27 @@ fn given_at(templates: &Templates, column: &[Option<Given>], place: u32) -> Opti
     }
 }
 
-/// What is given to the blocks, where the column has what they give themselves.
-fn with_inherited(templates: &Templates, own: Vec<Option<Given>>) -> Vec<Option<Given>>
-    requires { length own.items ≡ length templates.now }
-    ensures { (directive : List ℕ) → IsInherited templates.now directive
-        → HasOwn templates.now directive own.items
-        → HasGiven templates.now directive result.items }
+/// What is given to the blocks that others use, where the column has what all give themselves. What the others
+/// give stays: they are most, and what is given to one of them is found where it is asked for.
+fn with_inherited(uses: &Uses, own: Vec<Option<Given>>) -> Vec<Option<Given>>
+    requires long { length own.items ≡ length uses.now.graph }
+    requires within { All (λ place. place < length uses.now.graph) uses.now.order.items }
+    ensures long { length result.items ≡ length own.items }
+    ensures each { (blocks : List Block) (directive : List ℕ) → AreUses blocks uses.now
+        → IsInherited blocks directive → HasOwn blocks directive own.items
+        → HasGivenFrom blocks directive uses.now 0 result.items }
 {
-    let order = templates.order();
+    let order = uses.order();
     let mut column = own;
     let mut left = order.len();
     while left > 0 {
         left -= 1;
         let place = order[left];
-        column[place as usize] = given_at(templates, column.as_slice(), place);
+        if uses.is_used(place as usize) {
+            column[place as usize] = given_at(uses, column.as_slice(), place);
+        }
     }
     column
-}
-
-/// What is given to the blocks for a directive; nothing is kept where no block gives it itself.
-fn given_column<'a>(
-    alloc: Global,
-    templates: &Templates<'a>,
-    directive: &'a [u8],
-) -> Result<Vec<Option<Given>>, AllocError>
-    ensures { IfOk result (λ column. HasGiven templates.now directive.now column.items) }
-{
-    let blocks = templates.blocks();
-    let Some(texts) = templates.givers().texts(directive) else {
-        return Ok(Vec::new(alloc));
-    };
-    let own = own_column(alloc, blocks.len(), texts)?;
-    if stays(directive) {
-        return Ok(own);
-    }
-    Ok(with_inherited(templates, own))
 }
 
 /// What all blocks have for one directive. It takes some 20 bytes a block, and nothing where no block gives the
@@ -213,11 +203,15 @@ fn given_column<'a>(
 pub struct Values<'a> {
     blocks: &'a [Block],
     directive: &'a [u8],
+    /// The templates, where the column has of blocks that no other uses what they give themselves alone.
+    uses: Option<Arc<Uses>>,
     column: Vec<Option<Given>>,
 }
 
 impl<'a> Model for Values<'a> {
-    ghost use Rattle.object_inheritance.specs.Columns.{Column, HasGiven};
+    ghost use Rattle.std.specs.Arc.{arc_value};
+    ghost use Rattle.std.specs.Option.{option_map};
+    ghost use Rattle.object_inheritance.specs.Columns.{Column, HasKept};
 
     ghost Value = { Column };
 
@@ -226,11 +220,31 @@ impl<'a> Model for Values<'a> {
       directive = s.directive.now;
     } };
 
-    ghost invariant = { λ s. HasGiven s.blocks.now s.directive.now s.column.items };
+    ghost invariant = { λ s. HasKept s.blocks.now s.directive.now
+        (option_map (λ uses. arc_value uses) s.uses) s.column.items };
 }
 
 impl<'a> Values<'a> {
-    /// What the blocks have for the directive. The time grows with the blocks and the templates that they use;
+    /// The values that a column has.
+    fn of(
+        templates: &Templates<'a>,
+        directive: &'a [u8],
+        uses: Option<Arc<Uses>>,
+        column: Vec<Option<Given>>,
+    ) -> Values<'a>
+        requires { HasKept templates.now directive.now (option_map (λ one. arc_value one) uses)
+            column.items }
+        ensures { result ≡ record { blocks = templates.now; directive = directive.now } }
+    {
+        Values {
+            blocks: templates.blocks(),
+            directive,
+            uses,
+            column,
+        }
+    }
+
+    /// What the blocks have for the directive. The time grows with the blocks and the templates that others use;
     /// where no block gives the directive itself, it doesn't grow with them. A refused growth leaves nothing.
     pub fn new(
         alloc: Global,
@@ -240,23 +254,32 @@ impl<'a> Values<'a> {
         ensures { IfOk result (λ values. values
             ≡ record { blocks = templates.now; directive = directive.now }) }
     {
-        let column = given_column(alloc, templates, directive)?;
-        Ok(Values {
-            blocks: templates.blocks(),
-            directive,
-            column,
-        })
+        let Some(texts) = templates.givers().texts(directive) else {
+            return Ok(Values::of(templates, directive, None, Vec::new(alloc)));
+        };
+        let own = own_column(alloc, templates.blocks().len(), texts)?;
+        if stays(directive) {
+            return Ok(Values::of(templates, directive, None, own));
+        }
+        let uses = Arc::try_clone(templates.uses())?;
+        let column = with_inherited(&uses, own);
+        Ok(Values::of(templates, directive, Some(uses), column))
     }
 
     /// What is given to the block at the place.
     fn given(&self, place: usize) -> Option<Given>
         ensures { IsGivenAt self.now.blocks self.now.directive place result }
     {
-        if place < self.column.len() {
-            self.column[place]
-        } else {
-            None
+        if place >= self.column.len() {
+            return None;
         }
+        let Some(uses) = &self.uses else {
+            return self.column[place];
+        };
+        if uses.is_used(place) {
+            return self.column[place];
+        }
+        given_at(uses, self.column.as_slice(), place as u32)
     }
 
     /// The text that is given.

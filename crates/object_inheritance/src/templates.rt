@@ -1,8 +1,9 @@
 //! Templates, and their faults (chapter "Object Inheritance").
 
-ghost use Rattle.std.specs.Prelude.{◌≡◌, ◌<◌, ◌==◌, ◌^◌};
-ghost use Rattle.std.specs.Prelude.{false, length, All, None, IfErr, IfNone};
-ghost use Rattle.std.specs.Prelude.{IfOk, IfSome, OnOk};
+ghost use Rattle.std.specs.Prelude.{◌≡◌, ◌<◌, ◌==◌, ◌^◌, ℕ};
+ghost use Rattle.std.specs.Prelude.{false, length, All, Contains, None, IfErr, IfNone};
+ghost use Rattle.std.specs.Prelude.{slice_index_or, true, IfOk, IfSome, OnOk};
+ghost use Rattle.std.specs.Arc.{arc_value};
 ghost use Rattle.std.specs.Option.{option_map_or};
 ghost use Rattle.graph.specs.Chains.{HasNoLoop};
 ghost use Rattle.graph.specs.Edges.{Leads};
@@ -23,6 +24,7 @@ use graph_order::order::order;
 use object_reader::block::Block;
 use std::alloc::{AllocError, Global};
 use std::marker::Model;
+use std::sync::Arc;
 
 /// What is wrong with a block's templates. Of several faults of one block the first counts.
 #[derive(Clone, Copy, Debug, PartialEq, Eq)]
@@ -159,10 +161,65 @@ fn order_of(
 
 /// Which templates each block uses.
 #[derive(Drop)]
-struct Uses {
+pub(crate) struct Uses {
     graph: Graph,
     /// Each block stands before the templates that it uses.
     order: Vec<u32>,
+    /// Of each block whether another uses it. Most are used by none.
+    used: Vec<bool>,
+}
+
+impl Uses {
+    /// The graph of the templates.
+    pub(crate) fn graph(&self) -> &Graph
+        ensures { result.now ≡ self.now.graph }
+    {
+        &self.graph
+    }
+
+    /// An order of the blocks, in which each stands before the templates that it uses.
+    pub(crate) fn order(&self) -> &[u32]
+        ensures { result.now ≡ self.now.order.items }
+    {
+        self.order.as_slice()
+    }
+
+    /// Whether a block uses the one at the place; also where there is none.
+    pub(crate) fn is_used(&self, place: usize) -> bool
+        ensures { result ≡ slice_index_or self.now.used.items place true }
+    {
+        if place < self.used.len() {
+            self.used[place]
+        } else {
+            true
+        }
+    }
+}
+
+/// Marks these nodes.
+fn mark(used: &mut Vec<bool>, nodes: &[u32])
+    requires { All (λ q. q < length used.old.items) nodes.now }
+    ensures long { length used.new.items ≡ length used.old.items }
+    ensures marked { (q : ℕ) → Contains nodes.now q → slice_index_or used.new.items q true ≡ true }
+    ensures stays { (q : ℕ) → slice_index_or used.old.items q true ≡ true
+        → slice_index_or used.new.items q true ≡ true }
+{
+    for node in nodes {
+        used[*node as usize] = true;
+    }
+}
+
+/// Of each node whether an edge leads to it.
+fn used_nodes(alloc: Global, graph: &Graph) -> Result<Vec<bool>, AllocError>
+    ensures { IfOk result (λ used. (p q : ℕ) → Leads graph.now p q
+        → slice_index_or used.items q true ≡ true) }
+{
+    let count = graph.node_count();
+    let mut used = vec![in alloc; false; count as usize]?;
+    for node in 0..count {
+        mark(&mut used, graph.ends(node));
+    }
+    Ok(used)
 }
 
 /// Which templates each block uses, where none has a fault; or the first fault.
@@ -173,7 +230,8 @@ fn uses_of(alloc: Global, names: &TemplateNames) -> Result<Uses, InheritanceFaul
 {
     let graph = template_graph(alloc, names)?;
     let order = order_of(alloc, names, &graph)?;
-    Ok(Uses { graph, order })
+    let used = used_nodes(alloc, &graph)?;
+    Ok(Uses { graph, order, used })
 }
 
 /// The same of blocks, of which there are few enough.
@@ -187,25 +245,33 @@ fn checked_uses(alloc: Global, blocks: &[Block]) -> Result<Uses, InheritanceFaul
     uses_of(alloc, &names)
 }
 
+/// The same, shared with what is kept of the blocks' values.
+fn shared(alloc: Global, uses: Uses) -> Result<Arc<Uses>, AllocError>
+    ensures { IfOk result (λ it. arc_value it ≡ uses) }
+{
+    Ok(Arc::new(alloc, uses)?)
+}
+
 /// Blocks whose templates have no fault. It takes 16 bytes a block, 4 a template that a block uses and some 8 to
 /// 16 a directive. Contracts see the blocks.
 #[derive(Drop)]
 pub struct Templates<'a> {
     blocks: &'a [Block],
-    uses: Uses,
+    uses: Arc<Uses>,
     givers: Givers<'a>,
 }
 
 impl<'a> Model for Templates<'a> {
     ghost use Rattle.std.specs.Prelude.{List};
     ghost use Rattle.object_reader.specs.declared.block.Block.{Block};
+    ghost use Rattle.std.specs.Arc.{arc_value};
     ghost use Rattle.object_inheritance.specs.Faults.{AreTemplates};
 
     ghost Value = { List Block };
 
     ghost view = { λ s. s.blocks.now };
 
-    ghost invariant = { λ s. AreTemplates s.blocks.now s.uses s.givers };
+    ghost invariant = { λ s. AreTemplates s.blocks.now (arc_value s.uses) s.givers };
 }
 
 impl<'a> Templates<'a> {
@@ -223,7 +289,7 @@ impl<'a> Templates<'a> {
         let givers = Givers::new(alloc, blocks)?;
         Ok(Templates {
             blocks,
-            uses,
+            uses: shared(alloc, uses)?,
             givers,
         })
     }
@@ -241,20 +307,20 @@ impl<'a> Templates<'a> {
         self.blocks
     }
 
+    /// Which templates each block uses.
+    pub(crate) fn uses(&self) -> &Arc<Uses>
+        ensures uses { AreUses self.now (arc_value result.now) }
+        ensures few { length self.now < 2 ^ 32 }
+    {
+        &self.uses
+    }
+
     /// The graph of the templates.
     pub(crate) fn graph(&self) -> &Graph
         ensures value { result.now ≡ template_graph self.now }
         ensures long { length result.now ≡ length self.now }
     {
-        &self.uses.graph
-    }
-
-    /// An order of the blocks, in which each stands before the templates that it uses.
-    pub(crate) fn order(&self) -> &[u32]
-        ensures order { IsOrder (template_graph self.now) result.now }
-        ensures within { All (λ place. place < length self.now) result.now }
-    {
-        self.uses.order.as_slice()
+        self.uses.graph()
     }
 
     /// What each block gives itself.

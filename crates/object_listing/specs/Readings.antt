@@ -36,6 +36,12 @@ abbrev pub letters_at : List Block → (directive : List ℕ) → OptionKind →
 letters_at blocks directive kind place =
     unwrap_or (option_and_then (options_in kind) (value blocks directive place)) every_letter
 
+-- the same, and other letters where it doesn't say
+abbrev pub letters_or : List Block → (directive : List ℕ) → OptionKind → (other : OptionLetters)
+    → (place : ℕ) → OptionLetters
+letters_or blocks directive kind other place =
+    unwrap_or (option_and_then (options_in kind) (value blocks directive place)) other
+
 -- the states that the failure criteria of the block at a place name; none where it has no criteria, which
 -- isn't an empty list
 abbrev pub own_states : List Block → (directive : List ℕ) → CriteriaKind → (place : ℕ)

@@ -2,7 +2,8 @@
 
 ghost use Rattle.std.specs.Prelude.{◌≡◌, ◌≤◌, length};
 ghost use Rattle.due_model.specs.Limits.{max_periods};
-ghost use Rattle.object_listing.specs.Readings.{is_on, letters_at, number_at, own_number};
+ghost use Rattle.object_listing.specs.Readings.{is_on, letters_at, letters_or, number_at};
+ghost use Rattle.object_listing.specs.Readings.{own_number};
 ghost use Rattle.object_listing.specs.Readings.{own_period};
 ghost use Rattle.object_listing.specs.Readings.{own_states, period_at, period_named};
 
@@ -51,11 +52,23 @@ pub fn is_on(values: &Values, by_default: bool, place: usize) -> bool
 pub fn letters_at(values: &Values, kind: OptionKind, place: usize) -> OptionLetters
     ensures { result ≡ letters_at values.now.blocks values.now.directive kind place }
 {
+    letters_or(values, kind, OptionLetters::ALL, place)
+}
+
+/// The same, and `unlisted` where it has none, or the list has a word that is no option.
+pub fn letters_or(
+    values: &Values,
+    kind: OptionKind,
+    unlisted: OptionLetters,
+    place: usize,
+) -> OptionLetters
+    ensures { result ≡ letters_or values.now.blocks values.now.directive kind unlisted place }
+{
     let Some(text) = values.value(place) else {
-        return OptionLetters::ALL;
+        return unlisted;
     };
     match options_in(kind, text) {
-        None => OptionLetters::ALL,
+        None => unlisted,
         Some(letters) => letters,
     }
 }

@@ -111,7 +111,7 @@ host-at blocks (p ∷ ps) others (o ∷ os) (suc n) low all = host-at blocks ps 
 
 module _ (listed : ListedAreObjects) (blocks : List Block) (config : Config) (of : IsConfigOf blocks config) where
   contacts-long : length config.contacts ≡ length (names_in blocks Contact)
-  contacts-long = AllZip-long (IsContactOf blocks of.lanes) (objects_in blocks Contact) config.contacts of.contacts ∙ sym (names-long blocks Contact)
+  contacts-long = AllZip-long (IsContactOf config.choices.contact_none blocks of.lanes) (objects_in blocks Contact) config.contacts of.contacts ∙ sym (names-long blocks Contact)
 
   periods-long : length config.periods ≡ length (names_in blocks TimePeriod)
   periods-long = (of.periods).count ∙ sym (names-long blocks TimePeriod)
@@ -209,7 +209,7 @@ module _ (listed : ListedAreObjects) (blocks : List Block) (config : Config) (of
   named-fits : (entries : List (List ℕ)) (lane : ℕ) → NamesLane (names_in blocks Command) of.lanes entries lane → lane < length config.lanes
   named-fits entries lane (entry, at, is) = lane-fits lane _ is
 
-  rights-fit : (kind : RightsKind) (place : ℕ) (rights : Rights) → AreRightsOf blocks of.lanes kind place rights → RightsFit config rights
+  rights-fit : (kind : RightsKind) (place : ℕ) (rights : Rights) → AreRightsOf config.choices.contact_none blocks of.lanes kind place rights → RightsFit config rights
   rights-fit kind place rights are = record {
     period = subst (λ (p : Option PeriodId). IfSome p (λ q. q.0 < length config.periods)) (sym are.period) (period-fits (name blocks _ place) None tt);
     lanes = numbered (λ (lane : LaneId). lane.0) (λ k. k < length config.lanes) rights.lanes
@@ -217,7 +217,7 @@ module _ (listed : ListedAreObjects) (blocks : List Block) (config : Config) (of
   }
 
   contacts-fit_all : All (ContactFits config) config.contacts
-  contacts-fit_all = zip-all (IsContactOf blocks of.lanes) (λ place. Unit {0}) (ContactFits config)
+  contacts-fit_all = zip-all (IsContactOf config.choices.contact_none blocks of.lanes) (λ place. Unit {0}) (ContactFits config)
       (λ place contact good is. record { hosts = rights-fit OfHosts place contact.hosts is.hosts; services = rights-fit OfServices place contact.services is.services })
       (objects_in blocks Contact) config.contacts (all-of (λ place. Unit {0}) (objects_in blocks Contact) (λ place. tt)) of.contacts
 

@@ -136,8 +136,8 @@ plain-config has lists_has host_law service_law contact_law blocks config plain 
   objects = zip-weaker (IsObjectOf blocks) (λ (origin : Origin) object. IsPlainGiven blocks origin.place origin.host object) (λ origin. Unit {0})
       (λ origin object good given. given-own has lists_has blocks plain host_law service_law origin.place origin.host object given)
       (host_origins blocks ++ service_origins blocks of.hosts) config.objects (any (host_origins blocks ++ service_origins blocks of.hosts)) of.objects;
-  contacts = zip-weaker (IsContactOf blocks of.lanes) (IsPlainContact blocks of.lanes) (λ place. own blocks (codes "use") place ≡ None)
-      (λ place contact none is. contact_law blocks of.lanes place contact none is)
+  contacts = zip-weaker (IsContactOf config.choices.contact_none blocks of.lanes) (IsPlainContact config.choices.contact_none blocks of.lanes) (λ place. own blocks (codes "use") place ≡ None)
+      (λ place contact none is. contact_law config.choices.contact_none blocks of.lanes place contact none is)
       (objects_in blocks Contact) config.contacts (λ k d below. plain.templates _) of.contacts;
   named = of.named ∙ ap (λ (names : List (List ℕ)). map (λ command. slice_index_or names command []) of.lanes) (names-own has lists_has blocks plain Command);
   periods = zip-from (IsPlainPeriod blocks) (objects_in blocks TimePeriod) config.periods (of.periods).count

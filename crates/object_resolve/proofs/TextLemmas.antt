@@ -1,5 +1,5 @@
 -- The configuration of a text, or its fault, from those of its blocks.
-use Rattle.std.proofs.Common.{◌≡◌, ◌⊎◌, inl, inr, ℕ, List, Result, Ok, Err, is_ok, refl, sym, ap, subst}
+use Rattle.std.proofs.Common.{◌≡◌, ◌⊎◌, inl, inr, ℕ, Bool, List, Result, Ok, Err, is_ok, refl, sym, ap, subst}
 use Rattle.std.proofs.lemmas.Bool.{true≢false}
 use Rattle.due_model.specs.declared.config.Config.{Config}
 use Rattle.object_reader.specs.declared.block.Block.{Block}
@@ -13,7 +13,7 @@ use Rattle.object_faults.specs.LoadFaults.{of_read}
 use Rattle.object_resolve.specs.Fault.{IsAmong}
 use Rattle.object_resolve.specs.Laws.{ResolvedIsUnrefused}
 use Rattle.object_resolve.specs.Resolve.{IsRefusal, IsResolved}
-use Rattle.object_resolve.specs.Text.{IsTextFault}
+use Rattle.object_resolve.specs.Text.{IsTextFault, blocks_read, text_read}
 
 -- ---- what the reading of a text says of others
 
@@ -41,22 +41,22 @@ read-only r fault others is gives = only-memory fault others (subst (λ given. G
 
 -- ---- faults
 
-refused-text : (text : List ℕ) (fault : ReadFault) → IsRefused text fault → IsTextFault text (of_read fault)
-refused-text text (read.AtLine line fault) refused = refused
-refused-text text read.TooLarge refused = refused
-refused-text text read.NoMemory refused = refused
+refused-text : (nagios : Bool) (text : List ℕ) (fault : ReadFault) → IsRefused (text_read nagios text) fault → IsTextFault nagios text (of_read fault)
+refused-text nagios text (read.AtLine line fault) refused = refused
+refused-text nagios text read.TooLarge refused = refused
+refused-text nagios text read.NoMemory refused = refused
 
-pub read-fault : (text : List ℕ) (fault : ReadFault) → (fault ≡ read.NoMemory) ⊎ IsRefused text fault
-    → (of_read fault ≡ load.NoMemory) ⊎ IsTextFault text (of_read fault)
-read-fault text fault (inl is) = inl (ap of_read is)
-read-fault text fault (inr refused) = inr (refused-text text fault refused)
+pub read-fault : (nagios : Bool) (text : List ℕ) (fault : ReadFault) → (fault ≡ read.NoMemory) ⊎ IsRefused (text_read nagios text) fault
+    → (of_read fault ≡ load.NoMemory) ⊎ IsTextFault nagios text (of_read fault)
+read-fault nagios text fault (inl is) = inl (ap of_read is)
+read-fault nagios text fault (inr refused) = inr (refused-text nagios text fault refused)
 
-pub blocks-fault : (text : List ℕ) (blocks slice : List Block) (fault : LoadFault) → slice ≡ blocks → IsObjectText text blocks
-    → IsAmong (IsRefusal slice) fault → (fault ≡ load.NoMemory) ⊎ IsTextFault text fault
-blocks-fault text blocks slice (load.Block line fault) same whole refused = inr (blocks, whole, subst (λ bs. IsRefusal bs line fault) same refused)
-blocks-fault text blocks slice load.NoMemory same whole refused = inl refl
-blocks-fault text blocks slice (load.Line line fault) same whole refused = absurd refused
-blocks-fault text blocks slice load.TooLarge same whole refused = absurd refused
+pub blocks-fault : (nagios : Bool) (text : List ℕ) (blocks slice : List Block) (fault : LoadFault) → slice ≡ blocks_read nagios blocks → IsObjectText (text_read nagios text) blocks
+    → IsAmong (IsRefusal slice) fault → (fault ≡ load.NoMemory) ⊎ IsTextFault nagios text fault
+blocks-fault nagios text blocks slice (load.Block line fault) same whole refused = inr (blocks, whole, subst (λ bs. IsRefusal bs line fault) same refused)
+blocks-fault nagios text blocks slice load.NoMemory same whole refused = inl refl
+blocks-fault nagios text blocks slice (load.Line line fault) same whole refused = absurd refused
+blocks-fault nagios text blocks slice load.TooLarge same whole refused = absurd refused
 
 -- blocks that give a configuration are refused for want of memory alone
 pub blocks-only : ResolvedIsUnrefused → (blocks : List Block) (config : Config) (fault : LoadFault) → IsResolved blocks config
@@ -69,11 +69,11 @@ blocks-only law blocks config load.TooLarge of refused = absurd refused
 -- ---- configurations
 
 -- a text whose blocks give a configuration has no fault
-pub text-unrefused : ResolvedIsUnrefused → (text : List ℕ) (blocks : List Block) (config : Config) → IsResolved blocks config
-    → ((others : List Block) → IsObjectText text others → others ≡ blocks) → ((fault : ReadFault) → IsRefused text fault → ⊥)
-    → (fault : LoadFault) → IsTextFault text fault → ⊥
-text-unrefused law text blocks config of same unrefused (load.Line line fault) refused = unrefused (read.AtLine line fault) refused
-text-unrefused law text blocks config of same unrefused (load.Block line fault) (others, whole, refused) =
-    law blocks config line fault of (subst (λ bs. IsRefusal bs line fault) (same others whole) refused)
-text-unrefused law text blocks config of same unrefused load.TooLarge refused = unrefused read.TooLarge refused
-text-unrefused law text blocks config of same unrefused load.NoMemory refused = refused
+pub text-unrefused : ResolvedIsUnrefused → (nagios : Bool) (text : List ℕ) (blocks : List Block) (config : Config) → IsResolved (blocks_read nagios blocks) config
+    → ((others : List Block) → IsObjectText (text_read nagios text) others → others ≡ blocks) → ((fault : ReadFault) → IsRefused (text_read nagios text) fault → ⊥)
+    → (fault : LoadFault) → IsTextFault nagios text fault → ⊥
+text-unrefused law nagios text blocks config of same unrefused (load.Line line fault) refused = unrefused (read.AtLine line fault) refused
+text-unrefused law nagios text blocks config of same unrefused (load.Block line fault) (others, whole, refused) =
+    law (blocks_read nagios blocks) config line fault of (subst (λ bs. IsRefusal (blocks_read nagios bs) line fault) (same others whole) refused)
+text-unrefused law nagios text blocks config of same unrefused load.TooLarge refused = unrefused read.TooLarge refused
+text-unrefused law nagios text blocks config of same unrefused load.NoMemory refused = refused

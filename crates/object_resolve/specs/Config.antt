@@ -20,7 +20,8 @@ command_at blocks command = slice_index_or (names_in blocks Command) command []
 -- The configuration of blocks: hosts in file order and then services, block by block and within a block host by host;
 -- contacts and time periods in file order; the lanes, which are the commands that a registered contact names, in
 -- the order of their blocks; escalations, block by block and within a block object by object; and dependencies, block
--- by block and within a block dependent by dependent and master by master.
+-- by block and within a block dependent by dependent and master by master. Whose rules decide isn't said by blocks; what a
+-- contact has that lists no options goes by them.
 pub record IsConfigOf (blocks : List Block) (config : Config) : Type 0 where
   -- the hosts of each service block
   pub hosts : List (List ℕ)
@@ -32,7 +33,7 @@ pub record IsConfigOf (blocks : List Block) (config : Config) : Type 0 where
   pub spoken : List (List ℕ)
   pub spoken_are : AreEscalated blocks hosts (length blocks) spoken
   pub objects : AreObjectsOf blocks hosts config.objects
-  pub contacts : AreContactsOf blocks lanes config.contacts
+  pub contacts : AreContactsOf config.choices.contact_none blocks lanes config.contacts
   pub named : map (λ lane. lane.name) config.lanes ≡ map (command_at blocks) lanes
   pub periods : ArePeriodsOf blocks config.periods
   pub escalations : AreEntriesOf blocks config.objects spoken config.escalations

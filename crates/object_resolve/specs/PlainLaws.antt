@@ -102,7 +102,8 @@ pub record IsPlainConfig (blocks : List Block) (config : Config) : Type 0 where
   pub lanes : List ℕ
   pub lanes_are : AreLanes (IsPlainLane blocks) lanes
   pub objects : ArePlainObjects blocks hosts config.objects
-  pub contacts : AllZip (IsPlainContact blocks lanes) (objects_in blocks Contact) config.contacts
+  pub contacts : AllZip (IsPlainContact config.choices.contact_none blocks lanes)
+      (objects_in blocks Contact) config.contacts
   pub named : map (λ lane. lane.name) config.lanes
       ≡ map (λ command. slice_index_or (plain_names blocks Command) command []) lanes
   pub periods : AllZip (IsPlainPeriod blocks) (objects_in blocks TimePeriod) config.periods

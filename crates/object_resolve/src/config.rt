@@ -16,7 +16,7 @@ ghost use Rattle.object_settings.specs.Settings.{AreObjectsOf};
 use crate::asked::asked_of;
 use crate::limits::Counts;
 use crate::tables::Tables;
-use due_model::config::{Config, Contact, Dependency, Escalation, Lane};
+use due_model::config::{Choices, Config, Contact, Dependency, Escalation, Lane};
 use due_model::dependencies::Dependencies;
 use due_model::escalations::Escalations;
 use due_model::objects::Objects as ObjectTable;
@@ -35,9 +35,11 @@ use object_periods::periods::periods_of;
 use object_settings::objects::objects_of;
 use std::alloc::{AllocError, Global};
 
-/// The contacts, where `lanes` are the commands of the lanes.
+/// The contacts, where `lanes` are the commands of the lanes; what one has that lists no options, by this project's rule or
+/// the daemon's.
 fn contacts_in<'a>(
     alloc: Global,
+    daemons: bool,
     templates: &Templates<'a>,
     objects: &NamedObjects<'a>,
     lanes: &[usize],
@@ -45,12 +47,14 @@ fn contacts_in<'a>(
     requires objects { objects.now ≡ templates.now }
     requires few { AreFewOthers templates.now }
     requires few_lanes { length lanes.now ≤ max_lanes }
-    ensures { IfOk result (λ made. AreContactsOf templates.now lanes.now made.items) }
+    ensures { IfOk result (λ made. AreContactsOf daemons templates.now lanes.now made.items) }
 {
     let contacts = objects.objects(NamedKind::Contact);
     let commands = objects.objects(NamedKind::Command);
     let periods = objects.objects(NamedKind::TimePeriod);
-    contacts_of(alloc, templates, contacts, commands, periods, lanes)
+    contacts_of(
+        alloc, daemons, templates, contacts, commands, periods, lanes,
+    )
 }
 
 /// The lanes, by the names of their commands.
@@ -153,10 +157,11 @@ fn dependencies_in<'a>(
     dependencies_of(alloc, templates, &blocks, &counts.pairs, periods)
 }
 
-/// The configuration of blocks that keep within the limits, where `tables` and `counts` are theirs. A refused
+/// The configuration of blocks that keep within the limits, where `tables` and `counts` are theirs, by these choices. A refused
 /// growth leaves nothing.
 pub(crate) fn config_of<'a>(
     alloc: Global,
+    choices: Choices,
     templates: &Templates<'a>,
     tables: &Tables<'a, '_>,
     counts: &Counts<'a>,
@@ -164,10 +169,17 @@ pub(crate) fn config_of<'a>(
     requires tables { AreTables templates.now tables.now }
     requires within { AreWithin templates.now }
     requires counts { AreCounts templates.now counts.now }
-    ensures { IfOk result (IsConfigOf templates.now) }
+    ensures config { IfOk result (IsConfigOf templates.now) }
+    ensures choices { IfOk result (λ config. config.choices ≡ choices) }
 {
     let lanes = counts.lanes.as_slice();
-    let contacts = contacts_in(alloc, templates, tables.objects, lanes)?;
+    let contacts = contacts_in(
+        alloc,
+        choices.contact_none,
+        templates,
+        tables.objects,
+        lanes,
+    )?;
     let named = lanes_in(alloc, tables.objects, lanes)?;
     let periods = periods_of(
         alloc,
@@ -179,6 +191,7 @@ pub(crate) fn config_of<'a>(
     let escalations = escalations_in(alloc, templates, tables, counts, &objects, &listed)?;
     let dependencies = dependencies_in(alloc, templates, tables, counts)?;
     Ok(Config {
+        choices,
         objects,
         contacts: Sequence::new(contacts),
         lanes: Sequence::new(named),

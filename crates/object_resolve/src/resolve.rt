@@ -19,7 +19,7 @@ use crate::fault::of_place;
 use crate::limits::{Counts, check_limits};
 use crate::names::check_names;
 use crate::tables::Tables;
-use due_model::config::Config;
+use due_model::config::{Choices, Config};
 use object_faults::check::check;
 use object_faults::load_fault::{BlockFault, LoadFault};
 use object_inheritance::templates::Templates;
@@ -83,20 +83,23 @@ fn check_all<'a>(
 /// `tables` are theirs.
 fn resolve_tables<'a>(
     alloc: Global,
+    choices: Choices,
     templates: &Templates<'a>,
     tables: &mut Tables<'a, '_>,
 ) -> Result<Config, LoadFault>
     requires { AreTables templates.now tables.old }
     ensures config { IfOk result (IsFitting templates.now) }
+    ensures choices { IfOk result (λ config. config.choices ≡ choices) }
     ensures fault { IfErr result (IsAmong (IsUnfit templates.now)) }
 {
     let counts = check_all(alloc, templates, tables)?;
-    Ok(config_of(alloc, templates, tables, &counts)?)
+    Ok(config_of(alloc, choices, templates, tables, &counts)?)
 }
 
 /// The same, where the objects and the service blocks are theirs.
 fn resolve_objects<'a>(
     alloc: Global,
+    choices: Choices,
     templates: &Templates<'a>,
     objects: &NamedObjects<'a>,
     services: &ServiceBlocks<'a>,
@@ -104,30 +107,37 @@ fn resolve_objects<'a>(
     requires objects { objects.now ≡ templates.now }
     requires services { services.now ≡ templates.now }
     ensures config { IfOk result (IsFitting templates.now) }
+    ensures choices { IfOk result (λ config. config.choices ≡ choices) }
     ensures fault { IfErr result (IsAmong (IsUnfit templates.now)) }
 {
     let mut tables = Tables::new(alloc, templates, objects, services)?;
-    resolve_tables(alloc, templates, &mut tables)
+    resolve_tables(alloc, choices, templates, &mut tables)
 }
 
 /// The same, where they are yet to be found.
-fn resolve_all(alloc: Global, templates: &Templates) -> Result<Config, LoadFault>
+fn resolve_all(alloc: Global, choices: Choices, templates: &Templates) -> Result<Config, LoadFault>
     ensures config { IfOk result (IsFitting templates.now) }
+    ensures choices { IfOk result (λ config. config.choices ≡ choices) }
     ensures fault { IfErr result (IsAmong (IsUnfit templates.now)) }
 {
     let objects = NamedObjects::new(alloc, templates)?;
     let services = ServiceBlocks::new(alloc, templates)?;
-    resolve_objects(alloc, templates, &objects, &services)
+    resolve_objects(alloc, choices, templates, &objects, &services)
 }
 
-/// The configuration that the blocks give, or the first fault: first of templates, then of the values of each
+/// The configuration that the blocks give by these choices, or the first fault: first of templates, then of the values of each
 /// block, then of names, of loops of exclusions, of loops of dependencies and of limits; each over all blocks in file
 /// order. Out of memory says nothing of the blocks. The work grows with the bytes of the blocks, what they inherit, and
 /// the services, contacts, escalations and dependencies that they give.
-pub(crate) fn resolve(alloc: Global, blocks: &[Block]) -> Result<Config, LoadFault>
+pub(crate) fn resolve(
+    alloc: Global,
+    choices: Choices,
+    blocks: &[Block],
+) -> Result<Config, LoadFault>
     ensures resolved { IfOk result (IsResolved blocks.now) }
+    ensures choices { IfOk result (λ config. config.choices ≡ choices) }
     ensures refusal { IfErr result (IsAmong (IsRefusal blocks.now)) }
 {
     let templates = check_values(alloc, blocks)?;
-    resolve_all(alloc, &templates)
+    resolve_all(alloc, choices, &templates)
 }

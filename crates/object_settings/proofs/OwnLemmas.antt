@@ -43,6 +43,7 @@ module _ (blocks : List Block) (kind : OptionKind) (name host_name : List ℕ) (
     enabled = taken.enabled ∙ gives.enabled;
     options = taken.options ∙ gives.options;
     delay = taken.delay ∙ gives.delay;
+    volatile = taken.volatile ∙ gives.volatile;
     interval = taken.interval ∙ ap (λ (own_interval : Option ℕ). unwrap_or own_interval (unwrap_or hosts.interval 30)) gives.interval
         ∙ ap (λ (other : Option ℕ). unwrap_or (own_number blocks (codes "notification_interval") place) (unwrap_or other 30)) host_gives.interval;
     period = taken.period ∙ ap (λ (own_period : Option (Option PeriodId)). unwrap_or own_period (unwrap_or hosts.period None)) gives.period

@@ -1,5 +1,5 @@
 -- How the objects are made: what each block gives is found once, and then taken for each of its objects.
-use Rattle.std.specs.Prelude.{◌≡◌, ℕ, true, List, ◌++◌, map, codes, unwrap_or, Option, None, Some, IfSome, slice_get, slice_index_or, if◌then◌else◌}
+use Rattle.std.specs.Prelude.{◌≡◌, ℕ, true, false, List, ◌++◌, map, codes, unwrap_or, Option, None, Some, IfSome, slice_get, slice_index_or, if◌then◌else◌}
 use Rattle.std.specs.List.{AllZip}
 use Rattle.due_model.specs.Objects.{object_id}
 use Rattle.due_model.specs.declared.config.ContactId.{ContactId}
@@ -33,6 +33,8 @@ pub record AreFilters (blocks : List Block) (filters : Filters) : Type 0 where
       filters.options ≡ record { blocks = blocks; directive = codes "notification_options" }
   pub flags_are :
       filters.flags ≡ record { blocks = blocks; directive = codes "notifications_enabled" }
+  pub volatiles_are :
+      filters.volatiles ≡ record { blocks = blocks; directive = codes "is volatile" }
 
 -- and those that say to whom
 pub record AreTables (blocks : List Block) (contacts : List Block) (times : Times)
@@ -56,6 +58,7 @@ pub record IsOwn (blocks : List Block) (kind : OptionKind) (name : List ℕ) (pl
     (own : Own) : Type 0 where
   pub named : own.name.now ≡ name
   pub enabled : own.enabled ≡ is_on blocks (codes "notifications_enabled") true place
+  pub volatile : own.volatile ≡ is_on blocks (codes "is volatile") false place
   pub options : own.options ≡ letters_at blocks (codes "notification_options") kind place
   pub delay : own.delay ≡ number_at blocks (codes "first_notification_delay") 0 place
   pub interval : own.interval ≡ own_number blocks (codes "notification_interval") place
@@ -75,6 +78,7 @@ pub record IsTaken (own host : Own) (object : Object) : Type 0 where
   pub enabled : object.enabled ≡ own.enabled
   pub options : object.options ≡ own.options
   pub delay : object.delay ≡ own.delay
+  pub volatile : object.volatile ≡ own.volatile
   pub interval : object.interval ≡ unwrap_or own.interval (unwrap_or host.interval 30)
   pub period : object.period ≡ unwrap_or own.period (unwrap_or host.period None)
   pub contacts : object.contacts ≡ contacts_of own host

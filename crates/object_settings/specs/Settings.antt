@@ -1,6 +1,6 @@
 -- The hosts and services of a configuration, and their notification settings (chapters "Object Definitions",
 -- "Object Inheritance" and "Notifications").
-use Rattle.std.specs.Prelude.{◌≡◌, ℕ, ◌<◌, Bool, true, All, List, [], ◌++◌, length, map, codes, unwrap_or, Option, None, Some, slice_index_or, if◌then◌else◌}
+use Rattle.std.specs.Prelude.{◌≡◌, ℕ, ◌<◌, Bool, true, false, All, List, [], ◌++◌, length, map, codes, unwrap_or, Option, None, Some, slice_index_or, if◌then◌else◌}
 use Rattle.std.specs.List.{AllZip, flat_map, range_with_len}
 use Rattle.due_model.specs.Objects.{object_id}
 use Rattle.due_model.specs.declared.config.Object.{Object}
@@ -40,6 +40,8 @@ pub record HasSettings (blocks : List Block) (kind : OptionKind) (own host : ℕ
   pub enabled : object.enabled ≡ is_on blocks (codes "notifications_enabled") true own
   pub options : object.options ≡ letters_at blocks (codes "notification_options") kind own
   pub delay : object.delay ≡ number_at blocks (codes "first_notification_delay") 0 own
+  -- Text has no such name: a block with `is_volatile 1` is refused, but where text is read as Nagios reads it.
+  pub volatile : object.volatile ≡ is_on blocks (codes "is volatile") false own
   pub interval : object.interval ≡ interval_from blocks own host
   pub period : object.period ≡ period_from blocks own host
   pub contacts : AreThose (IsListed blocks contact_directives (contacts_from blocks own host))

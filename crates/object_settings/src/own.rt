@@ -24,6 +24,7 @@ pub(crate) struct Own<'a> {
     pub(crate) period: Option<Option<PeriodId>>,
     pub(crate) options: OptionLetters,
     pub(crate) enabled: bool,
+    pub(crate) volatile: bool,
     /// The first delay, in units of 60 seconds.
     pub(crate) delay: u32,
 }
@@ -83,6 +84,7 @@ pub(crate) fn object_of<'a>(
         period: period_of(own.period, host.period),
         interval: interval_of(own.interval, host.interval),
         delay: own.delay,
+        volatile: own.volatile,
         contacts: contacts_of(alloc, own, host)?,
     })
 }

@@ -31,6 +31,8 @@ pub(crate) struct Times<'a> {
 pub(crate) struct Filters<'a> {
     options: Values<'a>,
     flags: Values<'a>,
+    /// Of the name that only other readings of a text give.
+    volatiles: Values<'a>,
 }
 
 /// What all blocks have for the directives of notification settings. Contracts see the blocks, and the flags of those
@@ -72,6 +74,7 @@ fn filters_of<'a>(alloc: Global, templates: &Templates<'a>) -> Result<Filters<'a
     Ok(Filters {
         options: values_of(alloc, templates, "notification_options")?,
         flags: values_of(alloc, templates, "notifications_enabled")?,
+        volatiles: values_of(alloc, templates, "is volatile")?,
     })
 }
 
@@ -149,6 +152,7 @@ impl<'a> Tables<'a> {
             period: own_period(periods, &self.times.periods, place),
             options: letters_once(&self.filters.options, kind, read, place),
             enabled: is_on(&self.filters.flags, true, place),
+            volatile: is_on(&self.filters.volatiles, false, place),
             delay: number_at(&self.times.delays, 0, place),
         }
     }

@@ -38,6 +38,15 @@ abbrev pub range_in : List ℕ → Option Range
 range_in text = range_between
     (time_in (before_first is_dash text)) (time_in (after_first is_dash text))
 
+-- whether a text is a time, a dash, and a time before the first
+abbrev pub is_turned : (start end : Option ℕ) → Bool
+is_turned (Some start) (Some end) = nat_lt end start
+is_turned _ _ = false
+
+abbrev pub ends_before_it_begins : List ℕ → Bool
+ends_before_it_begins text =
+    is_turned (time_in (before_first is_dash text)) (time_in (after_first is_dash text))
+
 -- whether a text is ranges with a comma between each two
 abbrev pub are_ranges : List ℕ → Bool
 are_ranges text = list_all (λ part. is_some (range_in part)) (slice_split is_comma text)

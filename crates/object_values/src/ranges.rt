@@ -6,7 +6,7 @@ ghost use Rattle.std.specs.Prelude.{if◌then◌else◌, None};
 ghost use Rattle.std.specs.List.{after_first, before_first, list_any, position};
 ghost use Rattle.std.specs.Option.{option_to_list};
 ghost use Rattle.std.specs.Str.{bytes_eq};
-ghost use Rattle.object_values.specs.Ranges.{are_ranges, is_dated, month_of, range_in};
+ghost use Rattle.object_values.specs.Ranges.{are_ranges, ends_before_it_begins, is_dated, month_of, range_in};
 ghost use Rattle.object_values.specs.Ranges.{ranges_among, ranges_in, time_in, time_of, weekday_of};
 ghost use Rattle.object_values.specs.Values.{number_in};
 
@@ -96,6 +96,16 @@ fn range_in(text: &[u8]) -> Option<Range>
         Some(Range { start, end })
     } else {
         None
+    }
+}
+
+/// Whether a text is a time, a dash, and a time before the first: no range.
+pub fn ends_before_it_begins(text: &[u8]) -> bool
+    ensures { result ≡ ends_before_it_begins text.now }
+{
+    match (time_in(before(text, b'-')), time_in(after(text, b'-'))) {
+        (Some(start), Some(end)) => end < start,
+        _ => false,
     }
 }
 

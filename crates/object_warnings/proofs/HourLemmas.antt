@@ -109,7 +109,7 @@ past-get [] i long = refl
 past-get (x ∷ xs) zero long = absurd (omega (arith, long))
 past-get (x ∷ xs) (suc i) long = past-get xs i (omega (arith, long))
 
-past-or : {X : Type 0} (xs : List X) (i : ℕ) (d : X) → length xs ≤ i → get_or xs i d ≡ d
+pub past-or : {X : Type 0} (xs : List X) (i : ℕ) (d : X) → length xs ≤ i → get_or xs i d ≡ d
 past-or [] i d long = refl
 past-or (x ∷ xs) zero d long = absurd (omega (arith, long))
 past-or (x ∷ xs) (suc i) d long = past-or xs i d (omega (arith, long))
@@ -213,7 +213,7 @@ at-object c o object minute here within =
     ∙ sym (ap (λ (found : Option Object). option_map_or (λ one. (can_notify one && is_told c o one) && is_gap c (holds_at c minute) o one) found false) here)
 
 -- the first span of the object of that number
-first-at-object : (c : Config) (n id : ℕ) (object : Object) (objects : List Object) (rows : List (List Bool)) (asked : Bool) (span : Option Span) → id ≡ n → objects ≡ c.objects
+pub first-at-object : (c : Config) (n id : ℕ) (object : Object) (objects : List Object) (rows : List (List Bool)) (asked : Bool) (span : Option Span) → id ≡ n → objects ≡ c.objects
     → n < length c.objects → object ≡ get_or objects n object → rows ≡ rows_of (weekly c) → asked ≡ (can_notify object && is_told c id object)
     → IsFirst (λ minute. asked && is_gap c (flag (row_at rows minute)) id object) span → IsFirst (lacks_hours c n) span
 first-at-object c n id object objects rows asked span id_is objects_are within is rows_are asked_is first =

@@ -5,5 +5,6 @@ pub mod PeriodLemmas
 pub mod HourLemmas
 pub mod SteadyLemmas
 pub mod ToldLemmas
+pub mod CoveredLemmas
 pub mod AcceptedLemmas
 pub mod UnusedLemmas

@@ -24,6 +24,7 @@ plain period = record period { dated = [] }
 -- the periods without theirs, and nothing else
 abbrev pub weekly : Config → Config
 weekly c = record {
+  choices = c.choices;
   objects = [];
   contacts = [];
   lanes = [];
@@ -110,6 +111,11 @@ flag flags (Some period) = slice_index_or flags period.0 false
 -- the flags of a minute
 abbrev pub row_at : List (List Bool) → (minute : ℕ) → List Bool
 row_at rows minute = slice_index_or rows minute []
+
+-- The periods that are flagged hold at each minute of the week.
+abbrev pub AreAlways : (rows : List (List Bool)) → List Bool → Type 0
+AreAlways rows flags = (period : Option PeriodId) (minute : ℕ) → minute < week
+    → flag flags period ≡ true → flag (row_at rows minute) period ≡ true
 
 -- the contacts of the escalation at the place
 abbrev pub contacts_by : Config → (place : ℕ) → List ContactId

@@ -2,10 +2,11 @@
 
 ghost use Rattle.std.specs.Prelude.{◌≡◌, ◌<◌, ◌&&◌, length, IfOk, OnOk};
 ghost use Rattle.due_model.specs.Accepted.{IsAccepted};
-ghost use Rattle.object_warnings.specs.Hours.{AreFirst, AreKnown, IsFirst, lacks_hours};
+ghost use Rattle.object_warnings.specs.Hours.{AreAlways, AreFirst, AreKnown, IsFirst, lacks_hours};
 ghost use Rattle.object_warnings.specs.Hours.{rows_of, weekly};
 ghost use Rattle.object_warnings.specs.Objects.{can_notify, is_told};
 
+use crate::covered::{always_of, is_covered};
 use crate::known_spans::{Known, no_spans, span_of};
 use crate::objects::{can_notify, is_told, object_id};
 use crate::told_hours::hours_of;
@@ -32,11 +33,13 @@ fn first_at(
     alloc: Global,
     config: &Config,
     all: &Week,
+    always: &[bool],
     known: &mut Vec<Option<Known>>,
     number: usize,
 ) -> Result<Option<Span>, AllocError>
     requires accepted { IsAccepted config.now }
     requires week { all.now ≡ rows_of (weekly config.now) }
+    requires always { AreAlways all.now always.now }
     requires within { number < length config.now.objects }
     requires known { AreKnown (rows_of (weekly config.now)) known.old.items }
     ensures known { OnOk result (AreKnown (rows_of (weekly config.now)) known.new.items) }
@@ -45,6 +48,9 @@ fn first_at(
     let object = &config.objects.as_slice()[number];
     let id = object_id(number);
     if !tells_somebody(config, id, object) {
+        return Ok(None);
+    }
+    if is_covered(config, always, id, object) {
         return Ok(None);
     }
     let hours = hours_of(alloc, config, id, object)?;
@@ -59,10 +65,11 @@ pub fn without_hours(alloc: Global, config: &Config) -> Result<Vec<Option<Span>>
     ensures { IfOk result (λ spans. AreFirst config.now spans.items) }
 {
     let all = Week::new(alloc, &weekly(alloc, config)?)?;
+    let always = always_of(alloc, &all, config.periods.len())?;
     let mut known = no_spans(alloc)?;
     let mut spans = Vec::with_capacity(alloc, config.objects.len())?;
     for number in 0..config.objects.len() {
-        let span = first_at(alloc, config, &all, &mut known, number)?;
+        let span = first_at(alloc, config, &all, always.as_slice(), &mut known, number)?;
         spans.push(span)?;
     }
     Ok(spans)

@@ -2,6 +2,7 @@
 //! "Notification Escalations" and "Host and Service Dependencies").
 #![tactic(auto)]
 
+mod covered;
 pub mod criteria;
 pub mod directives;
 pub mod escalations;

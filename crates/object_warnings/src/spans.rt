@@ -9,7 +9,7 @@ use crate::week::{WEEK, Week};
 use due_model::config::PeriodId;
 
 /// Whether a period holds by the flags of all periods; no period is always.
-fn flag(flags: &[bool], period: Option<PeriodId>) -> bool
+pub(crate) fn flag(flags: &[bool], period: Option<PeriodId>) -> bool
     ensures { result ≡ flag flags.now period }
 {
     match period {

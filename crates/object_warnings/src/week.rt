@@ -100,6 +100,7 @@ pub(crate) fn weekly(alloc: Global, config: &Config) -> Result<Config, AllocErro
     ensures { IfOk result (λ made. made ≡ weekly config.now) }
 {
     Ok(Config {
+        choices: config.choices,
         objects: Objects::new(alloc, Vec::new(alloc))?,
         contacts: Sequence::new(Vec::new(alloc)),
         lanes: Sequence::new(Vec::new(alloc)),

@@ -1,5 +1,5 @@
 -- What an event finds, by the definitions, and what the filters read of it.
-use Rattle.std.specs.Prelude.{◌≡◌, ℕ, Bool, false, ◌||◌, List, ◌∷◌, nat_lt, Option, Some, None, is_some}
+use Rattle.std.specs.Prelude.{◌≡◌, ℕ, Bool, false, ◌&&◌, ◌||◌, List, ◌∷◌, nat_lt, Option, Some, None, is_some}
 use Rattle.due_model.specs.declared.config.Config.{Config}
 use Rattle.due_model.specs.declared.config.Object.{Object}
 use Rattle.due_model.specs.declared.config.ObjectId.{ObjectId}
@@ -8,9 +8,9 @@ use Rattle.due_model.specs.declared.notice.Kind.{Kind}
 use Rattle.due_model.specs.declared.rules.Attempt.{Attempt}
 use Rattle.due_model.specs.declared.rules.View.{View}
 use Rattle.due_model.specs.declared.zone.Zone.{Zone}
-use Rattle.due_model.specs.Dependencies.{dependency_fails}
-use Rattle.due_model.specs.Histories.{status_after}
-use Rattle.due_model.specs.Readings.{down, hard, moment, program_on}
+use Rattle.due_model.specs.Histories.{depends_at, host_holds, is_enabled, repeats, status_after, waiting, with_repeat}
+use Rattle.due_model.specs.Readings.{down, is_hard_of, is_problem_state, moment, program_on}
+use Rattle.due_model.specs.Rules.{attempted}
 use Rattle.outcomes.specs.declared.found.Found.{Found}
 use Rattle.problem_count.specs.Book.{BookValues}
 
@@ -27,14 +27,21 @@ pub record IsFound (c : Config) (zone : Zone) (o : ℕ) (settings : Object) (e :
   pub before : found.before ≡ status_after o past
   pub after : found.after ≡ status_after o (e ∷ past)
   pub host_down : found.host_down ≡ is_host_down settings.host (e ∷ past)
-  pub depends : found.depends
-      ≡ dependency_fails c zone (λ master. hard master (e ∷ past)) (moment (e ∷ past)) o
+  pub depends : found.depends ≡ depends_at c zone o settings e past
+  pub host_problem : found.host_problem ≡ host_holds c settings (e ∷ past)
+  pub repeats : found.repeats ≡ repeats c o e.kind past
+
+-- what is attempted, by a ready moment
+abbrev pub tried : (o : ℕ) → Found → Option ℕ → Option Kind
+tried o found due =
+    with_repeat (found.repeats && is_problem_state found.before.state)
+    (attempted o found.event found.before due found.moment)
 
 -- what the filters read of an object with these settings and this book
-abbrev pub view_by : Object → Found → BookValues → View
-view_by settings found book = record {
+abbrev pub view_by : (o : ℕ) → Object → Found → BookValues → View
+view_by o settings found book = record {
   program = found.program;
-  enabled = settings.enabled;
+  enabled = is_enabled settings found.after.switched;
   down = nat_lt 0 found.after.depth || found.host_down;
   flapping = found.after.flapping;
   options = settings.options;
@@ -44,7 +51,10 @@ view_by settings found book = record {
   acknowledged = is_some found.after.acknowledged;
   began = book.began;
   delay = settings.delay;
-  last = book.last;
+  last = waiting book.ended book.last;
+  renews = settings.volatile && is_hard_of o found.event;
+  told = book.told;
+  host_problem = found.host_problem;
 }
 
 -- the attempt as this kind

@@ -18,6 +18,11 @@ pub struct Found {
     pub after: ObjectStatus,
     /// Whether a service's host is in downtime, the event itself counted; of a host it is false.
     pub host_down: bool,
-    /// Whether a notification dependency of the object fails, the event itself counted.
+    /// Whether a notification dependency of the object, or of a service's host where that counts, fails, the event itself
+    /// counted.
     pub depends: bool,
+    /// Whether a service's host isn't UP, where that holds notices back, the event itself counted.
+    pub host_problem: bool,
+    /// Whether the event attempts the problem of the object again, if one runs.
+    pub repeats: bool,
 }

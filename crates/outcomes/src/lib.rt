@@ -4,6 +4,7 @@
 
 pub mod found;
 mod judge;
+mod lapse;
 pub mod outcome;
 pub mod rules;
 mod settle;

@@ -38,7 +38,18 @@ pub(crate) fn settle(
     }
     let mut settled = book;
     match outcome {
-        Outcome::Sent { moment, gap, .. } => settled.went_out(moment, gap),
+        Outcome::Sent {
+            moment,
+            gap,
+            reach,
+            ..
+        } => {
+            if reach.heard {
+                settled.went_out(moment, gap);
+            } else {
+                settled.unheard(moment);
+            }
+        }
         Outcome::Suppressed { moment, filter, .. } => {
             let settings = &rules.config.objects.as_slice()[usize::from(object.0)];
             settled.suppressed(

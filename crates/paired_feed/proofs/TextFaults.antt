@@ -2,7 +2,7 @@
 use Rattle.std.proofs.Common.{◌≡◌, ℕ, true, false, not, cond, codes, ltb, List, [], ◌∷◌, length, Option, None, Some, Bool, Result, Ok, Err, refl, sym, ap, subst}
 use Rattle.std.specs.Option.{ok_or}
 use Rattle.std.specs.Str.{bytes_eq, is_utf8}
-use Rattle.std.proofs.lemmas.Bool.{true≢false}
+use Rattle.std.proofs.lemmas.Bool.{cond_both, true≢false}
 use Rattle.due_model.specs.Objects.{object_named}
 use Rattle.due_model.specs.declared.config.Object.{Object}
 use Rattle.due_model.specs.declared.config.ObjectId.{ObjectId}
@@ -12,7 +12,7 @@ use Rattle.due_model.specs.declared.event.EventKind.TheVariants.{Clock, Program}
 use Rattle.event_feed.specs.declared.fault.FeedFault.{FeedFault}
 use Rattle.event_feed.specs.declared.fault.FeedFault.TheVariants.{BadStamp, UnknownKind, UnknownObject, BadState, LineTooLong, NotUtf8, Ahead, Cut, Read, NoMemory, Ended}
 use Rattle.event_feed.specs.Feed.{ends_feed, raised, text_reading}
-use Rattle.event_feed.specs.Line.{arguments_reading, bare_reading, command_named, command_of, command_reading, fields, last_reading, line_reading, said, said_reading, stamp_of, stamp_reading, stamped}
+use Rattle.event_feed.specs.Line.{arguments_reading, bare_reading, command_named, command_of, command_reading, fields, last_reading, line_reading, all_said, are_so_many, said_reading, stamp_of, stamp_reading, stamped}
 use Rattle.text_lines.specs.LineReader.{line_limit}
 
 -- whether a fault is of what a line says
@@ -45,14 +45,14 @@ First {A} f = A
 abbrev Second : {A B C : Type 0} → (A → B → C) → Type 0
 Second {A} {B} f = B
 
-said-says : (words : First said_reading) (subject : Second said_reading) (object : Option ObjectId) (word : List ℕ) → Says (said_reading words subject object word)
-said-says words subject None word = refl
-said-says words subject (Some id) word = ok_or-says (said words subject id word)
+said-says : (words : First said_reading) (subject : Second said_reading) (object : Option ObjectId) (parts : List (List ℕ)) → Says (said_reading words subject object parts)
+said-says words subject None parts = refl
+said-says words subject (Some id) parts = ok_or-says (all_said words subject id parts)
 
 last-says : (objects : List Object) (words : First said_reading) (subject : Second said_reading) (host : List ℕ) (service : Option (List ℕ)) (arguments : List (List ℕ)) → Says (last_reading objects words subject host service arguments)
-last-says objects words subject host service [] = refl
-last-says objects words subject host service (word ∷ []) = said-says words subject (object_named objects host service) word
-last-says objects words subject host service (word ∷ more ∷ arguments) = refl
+last-says objects words subject host service arguments =
+    cond_both (are_so_many words arguments) (said_reading words subject (object_named objects host service) arguments) (Err BadState) Says
+    (λ _. said-says words subject (object_named objects host service) arguments) (λ _. refl)
 
 -- what is read of arguments, by their first
 by_first : (f : List (List ℕ) → Result EventKind FeedFault) → Says (f []) → ((argument : List ℕ) (more : List (List ℕ)) → Says (f (argument ∷ more))) → (arguments : List (List ℕ)) → Says (f arguments)
@@ -92,7 +92,9 @@ arguments-says objects name arguments =
     (either_says objects arguments (bytes_eq name (codes "SERVICE_FLAPPING")) _ _ (host-says objects (codes "SERVICE_FLAPPING") refl (λ host more. service-says objects (codes "SERVICE_FLAPPING") host refl (λ service rest. search (last-says)) more) arguments)
     (either_says objects arguments (bytes_eq name (codes "HOST_ACK")) _ _ (host-says objects (codes "HOST_ACK") refl (λ host more. search (last-says)) arguments)
     (either_says objects arguments (bytes_eq name (codes "SERVICE_ACK")) _ _ (host-says objects (codes "SERVICE_ACK") refl (λ host more. service-says objects (codes "SERVICE_ACK") host refl (λ service rest. search (last-says)) more) arguments)
-    refl))))))))))
+    (either_says objects arguments (bytes_eq name (codes "HOST_NOTIFICATIONS")) _ _ (host-says objects (codes "HOST_NOTIFICATIONS") refl (λ host more. search (last-says)) arguments)
+    (either_says objects arguments (bytes_eq name (codes "SERVICE_NOTIFICATIONS")) _ _ (host-says objects (codes "SERVICE_NOTIFICATIONS") refl (λ host more. service-says objects (codes "SERVICE_NOTIFICATIONS") host refl (λ service rest. search (last-says)) more) arguments)
+    refl))))))))))))
 
 command-says : (objects : List Object) (parts : List (List ℕ)) → Says (command_reading objects parts)
 command-says objects [] = refl

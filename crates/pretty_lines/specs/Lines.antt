@@ -51,6 +51,7 @@ kind_colour kind.FlappingStop = codes "36"
 kind_colour kind.DowntimeStart = codes "36"
 kind_colour kind.DowntimeEnd = codes "36"
 kind_colour kind.DowntimeCancelled = codes "36"
+kind_colour kind.Acknowledgement = codes "36"
 
 -- ---- the lines
 

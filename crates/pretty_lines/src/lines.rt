@@ -101,6 +101,7 @@ fn kind_colour(kind: Kind) -> &'static [u8]
         Kind::DowntimeStart => b"36",
         Kind::DowntimeEnd => b"36",
         Kind::DowntimeCancelled => b"36",
+        Kind::Acknowledgement => b"36",
     }
 }
 

@@ -1,16 +1,20 @@
 //! A book: the problem of one object, told event by event what became of it.
 
-ghost use Rattle.std.specs.Prelude.{◌≡◌, ◌+◌, ◌^◌, ◌<◌, ◌≤◌, true, Some};
+ghost use Rattle.std.specs.Prelude.{◌≡◌, ◌+◌, ◌^◌, ◌<◌, ◌≤◌, ◌&&◌, ◌||◌, true, None, Some};
+ghost use Rattle.std.specs.Prelude.{if◌then◌else◌};
 ghost use Rattle.due_model.specs.Limits.{last_moment};
 ghost use Rattle.due_model.specs.Readings.{is_problem_state};
-ghost use Rattle.due_model.specs.Rules.{next_notice};
 ghost use Rattle.problem_count.specs.Book.{longest_gap, LastIsInRange, new_book};
-ghost use Rattle.problem_count.specs.Book.{after_hard, number_of, retry_by};
-ghost use Rattle.problem_count.specs.Fits.{FitsNothing, HardFits, SentFits, SuppressedFits};
-ghost use Rattle.problem_count.specs.Fits.{DueIsReady, NumberIsNext};
+ghost use Rattle.problem_count.specs.Book.{after_hard, after_release, after_sent, begins_problem, delayed_from};
+ghost use Rattle.problem_count.specs.Book.{delays_by, emptied, is_change, number_of, retry_by, stated};
+ghost use Rattle.problem_count.specs.Fits.{FitsNothing, HardFits, SentFits, LapseFits, SuppressedFits, UnheardFits};
+ghost use Rattle.due_model.specs.Histories.{waits_a_while};
+ghost use Rattle.problem_count.specs.Fits.{DueIsReady, NumberIsNext, ReleaseFits};
 
+use due_model::config::Choices;
 use due_model::notice::Filter;
-use due_model::rules::{Last, next_notice};
+use due_model::options::OptionLetters;
+use due_model::rules::{Last, next_notice, same_state};
 use due_model::state::State;
 use std::marker::Model;
 
@@ -22,12 +26,16 @@ use std::marker::Model;
 pub struct Book {
     /// The object's last hard state.
     state: State,
-    /// When its last problem began.
+    /// Since when the first delay runs.
     began: u64,
     /// How many notices of that problem went out.
     sent: u64,
     /// The last of them.
     last: Option<Last>,
+    /// The letters of the states that they told.
+    told: OptionLetters,
+    /// Whether the wait after the last of them was ended.
+    ended: bool,
     /// When the clock next attempts the problem that runs; none is never.
     due: Option<u64>,
 }
@@ -44,6 +52,8 @@ impl Model for Book {
       began = s.began;
       sent = s.sent;
       last = s.last;
+      told = s.told;
+      ended = s.ended;
       due = s.due;
     } };
 
@@ -52,6 +62,8 @@ impl Model for Book {
       began = d.began;
       sent = d.sent;
       last = d.last;
+      told = d.told;
+      ended = d.ended;
       due = d.due;
     } };
 
@@ -71,6 +83,8 @@ impl Book {
             began: 0,
             sent: 0,
             last: None,
+            told: OptionLetters::NONE,
+            ended: false,
             due: None,
         }
     }
@@ -78,31 +92,134 @@ impl Book {
     /// The object has this hard state at moment `t`. A problem state after an OK or a pending one begins a
     /// problem (chapter "Notifications"). Nothing is due until what becomes of the state is told; after an OK
     /// state nothing is due at all.
-    pub fn hard(&mut self, state: State, t: u64)
+    pub fn hard(&mut self, choices: Choices, state: State, t: u64)
         requires { t ≤ last_moment }
-        ensures values { self.new ≡ after_hard state t self.old }
-        ensures fits { HardFits state t self.old self.new }
+        ensures values { self.new ≡ after_hard choices state t self.old }
+        ensures fits { HardFits choices state t self.old self.new }
     {
-        *self = self.in_state(state, t);
+        *self = self.in_state(choices, state, t);
     }
 
     /// The book of the object in this hard state at moment `t`.
-    fn in_state(self, state: State, t: u64) -> Book
+    fn in_state(self, choices: Choices, state: State, t: u64) -> Book
         requires { t ≤ last_moment }
-        ensures { result ≡ after_hard state t self }
+        ensures { result ≡ after_hard choices state t self }
     {
-        if state.is_problem() && !self.is_running() {
-            Book {
-                state,
-                began: t,
-                ..Book::new()
-            }
+        let begun = self.begins(state);
+        let anew = self.delays(choices, state);
+        let over = self.ends(choices, state);
+        self.emptied(begun).delayed(anew, t).stated(state, over)
+    }
+
+    /// Whether a problem begins with this hard state.
+    fn begins(&self, state: State) -> bool
+        ensures { result ≡ begins_problem state self.now }
+    {
+        state.is_problem() && !self.is_running()
+    }
+
+    /// Whether the hard state changes with this one.
+    fn changes(&self, state: State) -> bool
+        ensures { result ≡ is_change state self.now }
+    {
+        !same_state(state, self.state)
+    }
+
+    /// Whether the first delay runs anew with this hard state.
+    fn delays(&self, choices: Choices, state: State) -> bool
+        ensures { result ≡ delays_by choices state self.now }
+    {
+        if choices.delay {
+            self.changes(state)
         } else {
+            self.begins(state)
+        }
+    }
+
+    /// Whether the wait after the last notice is ended with this hard state.
+    fn ends(&self, choices: Choices, state: State) -> bool
+        ensures { result ≡ (self.now.ended || (choices.reset_wait && is_change state self.now)) }
+    {
+        let changes = self.changes(state);
+        self.ended || (choices.reset_wait && changes)
+    }
+
+    /// The book without the notices of its problem, where another begins.
+    fn emptied(self, begins: bool) -> Book
+        ensures { result ≡ emptied begins self }
+    {
+        if begins {
             Book {
-                state,
-                due: None,
+                sent: 0,
+                last: None,
+                told: OptionLetters::NONE,
                 ..self
             }
+        } else {
+            self
+        }
+    }
+
+    /// The book with a first delay that runs from moment `t`, where it runs anew.
+    fn delayed(self, anew: bool, t: u64) -> Book
+        requires { t ≤ last_moment }
+        ensures { result ≡ delayed_from anew t self }
+    {
+        if anew {
+            Book { began: t, ..self }
+        } else {
+            self
+        }
+    }
+
+    /// The book in this hard state, of which nothing is due, and of which the wait was ended or not.
+    fn stated(self, state: State, ended: bool) -> Book
+        ensures { result ≡ stated state ended self }
+    {
+        Book {
+            state,
+            ended,
+            due: None,
+            ..self
+        }
+    }
+
+    /// The acknowledgement of the problem is taken back at moment `t`: from then on the clock attempts it again, if it runs.
+    /// This is told before what becomes of the event.
+    pub fn release(&mut self, t: u64)
+        requires { t ≤ last_moment }
+        ensures values { self.new ≡ after_release t self.old }
+        ensures fits { ReleaseFits t self.old self.new }
+    {
+        self.due = self.due_where_running(t);
+    }
+
+    /// That moment, where a problem runs.
+    fn due_where_running(&self, t: u64) -> Option<u64>
+        ensures { result ≡ (if is_problem_state self.now.state then Some t else None) }
+    {
+        if self.is_running() { Some(t) } else { None }
+    }
+
+    /// What becomes of an event ends the wait after the last notice, if its gap isn't 0, or doesn't. This is told before
+    /// what becomes of it.
+    pub fn lapse(&mut self, lapses: bool)
+        ensures values { self.new ≡ record self.old {
+          ended = self.old.ended || (lapses && waits_a_while self.old.last);
+        } }
+        ensures fits { LapseFits lapses self.old self.new }
+    {
+        let waits = self.waits_a_while();
+        self.ended = self.ended || (lapses && waits);
+    }
+
+    /// Whether there is a last notice, and its gap isn't 0.
+    fn waits_a_while(&self) -> bool
+        ensures { result ≡ waits_a_while self.now.last }
+    {
+        match self.last {
+            Some(last) => last.gap != 0,
+            None => false,
         }
     }
 
@@ -114,11 +231,7 @@ impl Book {
         requires number { self.old.sent + 2 < 2 ^ 64 }
         requires moment { t ≤ last_moment }
         requires interval { interval ≤ longest_gap }
-        ensures values { self.new ≡ record self.old {
-          sent = self.old.sent + 1;
-          last = Some (record { state = self.old.state; moment = t; gap = interval });
-          due = next_notice t interval;
-        } }
+        ensures values { self.new ≡ after_sent t interval self.old }
         ensures fits { SentFits t interval self.old self.new }
     {
         self.sent += 1;
@@ -127,7 +240,20 @@ impl Book {
             moment: t,
             gap: interval,
         });
+        self.told = self.told.with(self.state.letter());
+        self.ended = false;
         self.due = next_notice(t, interval);
+    }
+
+    /// A problem notice goes out at moment `t` and doesn't count, as it reaches nobody. The clock attempts the problem
+    /// again 60 seconds later. It asks for a running problem.
+    pub fn unheard(&mut self, t: u64)
+        requires runs { is_problem_state self.old.state ≡ true }
+        requires moment { t ≤ last_moment }
+        ensures values { self.new ≡ record self.old { due = Some (t + 60) } }
+        ensures fits { UnheardFits t self.old self.new }
+    {
+        self.due = Some(t + 60);
     }
 
     /// A filter stops an attempt as a problem at moment `t`. It doesn't count. The clock attempts the problem again:
@@ -162,9 +288,11 @@ impl Book {
             | Filter::Options
             | Filter::NoProblem
             | Filter::Dependency
+            | Filter::HostDown
             | Filter::ContactDisabled
             | Filter::ContactOptions
-            | Filter::ContactPeriod => Some(t + 60),
+            | Filter::ContactPeriod
+            | Filter::ContactNotTold => Some(t + 60),
         }
     }
 
@@ -208,7 +336,21 @@ impl Book {
         self.last
     }
 
-    /// When the last problem began; 0 where there was none.
+    /// The letters of the states that the notices of the last problem told.
+    pub fn told(&self) -> OptionLetters
+        ensures { result ≡ self.now.told }
+    {
+        self.told
+    }
+
+    /// Whether the wait after the last notice was ended.
+    pub fn ended(&self) -> bool
+        ensures { result ≡ self.now.ended }
+    {
+        self.ended
+    }
+
+    /// Since when the first delay runs; 0 where it never did.
     pub fn began(&self) -> u64
         ensures value { result ≡ self.now.began }
         ensures range { result ≤ last_moment }

@@ -2,7 +2,7 @@
 //! events one by one. Each is the contract of a function with nothing to do.
 
 ghost use Rattle.problem_count.specs.Laws.{OtherEventsFit, OtherOutcomesFit, UntouchedFit};
-ghost use Rattle.problem_count.specs.Laws.{OutcomesAreByDue, ClockAttemptsByDue, ProblemsRun};
+ghost use Rattle.problem_count.specs.Laws.{OutcomesAreByDue, ClockAttemptsByDue, ProblemsRun, RepeatsRun};
 ghost use Rattle.problem_count.specs.Laws.{CountsAreFew, CountsWithinAreFew};
 
 /// A book fits on within an event that gives its object no hard state, and after an event that becomes no attempt
@@ -19,6 +19,7 @@ pub fn attempt_by_due()
     ensures outcomes { OutcomesAreByDue }
     ensures clock { ClockAttemptsByDue }
     ensures runs { ProblemsRun }
+    ensures repeats { RepeatsRun }
 {}
 
 /// No more notices went out in a problem than there were events.

@@ -1,5 +1,6 @@
 -- What a replay does: it writes the report of its input, or fails.
 use Rattle.std.specs.Prelude.{◌≡◌, ℕ, Bool, List, [], Option}
+use Rattle.due_model.specs.declared.config.Choices.{Choices}
 use Rattle.due_model.specs.declared.config.Config.{Config}
 use Rattle.due_model.specs.declared.zone.Zone.{Zone}
 use Rattle.event_feed.specs.Feed.{Answer, AreGiven, answers}
@@ -7,7 +8,7 @@ use Rattle.text_lines.specs.Lines.{pieces}
 use Rattle.command_output.specs.declared.outcome.CommandFault.{CommandFault}
 use Rattle.command_output.specs.declared.outcome.Ending.{Ending}
 use Rattle.written.specs.Written.{Writes, WritesFront}
-use Rattle.command_input.specs.Objects.{CommandFails, IsTextOf, feed_in, objects_in}
+use Rattle.command_input.specs.Objects.{CommandFails, IsTextBy, feed_in, objects_in}
 use Rattle.replay.specs.Report.{ending_after, report_text}
 
 -- the answers are those of a feed from its first line on
@@ -16,40 +17,40 @@ AreOfFeed can_fail config feed given =
     AreGiven can_fail given (answers config.objects 0 0 (pieces feed)) 0 (pieces feed)
 
 -- What was written is the report of the feed for the configuration of the object text, and the reading ended so.
-abbrev pub ReportsOf : (can_fail : Bool) → (objects feed : List ℕ) → Zone → Ending
+abbrev pub ReportsOf : Choices → (can_fail : Bool) → (objects feed : List ℕ) → Zone → Ending
     → (old new : Option (List ℕ)) → Type 0
-ReportsOf can_fail objects feed zone ending old new =
-    (config : Config) × (given : List Answer) × IsTextOf config objects
+ReportsOf choices can_fail objects feed zone ending old new =
+    (config : Config) × (given : List Answer) × IsTextBy choices config objects
     × AreOfFeed can_fail config feed given × (ending ≡ ending_after [] given)
     × Writes old new (report_text config zone given)
 
 -- what was written is a front of such a report
-abbrev pub ReportsFrontOf : (can_fail : Bool) → (objects feed : List ℕ) → Zone
+abbrev pub ReportsFrontOf : Choices → (can_fail : Bool) → (objects feed : List ℕ) → Zone
     → (old new : Option (List ℕ)) → Type 0
-ReportsFrontOf can_fail objects feed zone old new =
-    (config : Config) × (given : List Answer) × IsTextOf config objects
+ReportsFrontOf choices can_fail objects feed zone old new =
+    (config : Config) × (given : List Answer) × IsTextBy choices config objects
     × AreOfFeed can_fail config feed given
     × WritesFront old new (report_text config zone given)
 
 -- what a fault says: a front of the report is written at most
-abbrev pub FailsOf : (text_can_fail can_fail : Bool) → (objects feed : List ℕ) → Zone
+abbrev pub FailsOf : Choices → (text_can_fail can_fail : Bool) → (objects feed : List ℕ) → Zone
     → CommandFault → (old new : Option (List ℕ)) → Type 0
-FailsOf text_can_fail can_fail objects feed zone fault old new =
-    CommandFails text_can_fail objects fault old new
-    (ReportsFrontOf can_fail objects feed zone old new)
+FailsOf choices text_can_fail can_fail objects feed zone fault old new =
+    CommandFails choices text_can_fail objects fault old new
+    (ReportsFrontOf choices can_fail objects feed zone old new)
 
 -- ---- of one input, which has the object text, a mark, and the feed
 
-abbrev pub Reports : (can_fail : Bool) → List ℕ → Zone → Ending → (old new : Option (List ℕ))
+abbrev pub Reports : Choices → (can_fail : Bool) → List ℕ → Zone → Ending → (old new : Option (List ℕ))
     → Type 0
-Reports can_fail bytes zone ending old new =
-    ReportsOf can_fail (objects_in bytes) (feed_in bytes) zone ending old new
+Reports choices can_fail bytes zone ending old new =
+    ReportsOf choices can_fail (objects_in bytes) (feed_in bytes) zone ending old new
 
-abbrev pub ReportsFront : (can_fail : Bool) → List ℕ → Zone → (old new : Option (List ℕ)) → Type 0
-ReportsFront can_fail bytes zone old new =
-    ReportsFrontOf can_fail (objects_in bytes) (feed_in bytes) zone old new
+abbrev pub ReportsFront : Choices → (can_fail : Bool) → List ℕ → Zone → (old new : Option (List ℕ)) → Type 0
+ReportsFront choices can_fail bytes zone old new =
+    ReportsFrontOf choices can_fail (objects_in bytes) (feed_in bytes) zone old new
 
-abbrev pub FailsWith : (can_fail : Bool) → List ℕ → Zone → CommandFault
+abbrev pub FailsWith : Choices → (can_fail : Bool) → List ℕ → Zone → CommandFault
     → (old new : Option (List ℕ)) → Type 0
-FailsWith can_fail bytes zone fault old new =
-    FailsOf can_fail can_fail (objects_in bytes) (feed_in bytes) zone fault old new
+FailsWith choices can_fail bytes zone fault old new =
+    FailsOf choices can_fail can_fail (objects_in bytes) (feed_in bytes) zone fault old new

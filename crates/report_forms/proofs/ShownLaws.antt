@@ -1,6 +1,7 @@
 -- From what is told of a report to the lines of it that are wanted.
 use Rattle.std.proofs.Common.{◌≡◌, ℕ, Bool, true, false, cond, List, [], ◌∷◌, ◌++◌, filter, flat_map, Option, Result, Ok, Err, None, Some, IfErr, IfOk, IfSome, refl, sym, ap, subst, ◌∙◌, inl, inr}
 use Rattle.std.proofs.lemmas.List.{append-nil}
+use Rattle.due_model.specs.declared.config.Choices.{Choices}
 use Rattle.due_model.specs.declared.config.Config.{Config}
 use Rattle.due_model.specs.declared.zone.Zone.{Zone}
 use Rattle.event_feed.specs.Feed.{Answer}
@@ -40,24 +41,24 @@ pub report_told : (shown : ShownLines) (c : Config) (zone : Zone) (given : List 
 report_told shown c zone given = append-nil (told_all (form_at c zone) shown (report_lines c zone given)) ∙ all_told shown c zone (report_lines c zone given)
 
 -- what is told is what is shown
-pub shows : (shown : ShownLines) (can_fail : Bool) (objects feed : List ℕ) (zone : Zone) (ending : Ending) (old new : Option (List ℕ))
-    → tells.TellsOf form_at shown can_fail objects feed zone ending old new → ShowsOf shown can_fail objects feed zone ending old new
-shows shown can_fail objects feed zone ending old new h =
+pub shows : (choices : Choices) (shown : ShownLines) (can_fail : Bool) (objects feed : List ℕ) (zone : Zone) (ending : Ending) (old new : Option (List ℕ))
+    → tells.TellsOf choices form_at shown can_fail objects feed zone ending old new → ShowsOf choices shown can_fail objects feed zone ending old new
+shows choices shown can_fail objects feed zone ending old new h =
     (h.0, h.1, h.2, h.3, h.4, subst (λ text. Writes old new text) (report_told shown h.0 zone h.1) h.5)
 
-pub shows_front : (shown : ShownLines) (can_fail : Bool) (objects feed : List ℕ) (zone : Zone) (old new : Option (List ℕ))
-    → tells.TellsFrontOf form_at shown can_fail objects feed zone old new → ShowsFrontOf shown can_fail objects feed zone old new
-shows_front shown can_fail objects feed zone old new h =
+pub shows_front : (choices : Choices) (shown : ShownLines) (can_fail : Bool) (objects feed : List ℕ) (zone : Zone) (old new : Option (List ℕ))
+    → tells.TellsFrontOf choices form_at shown can_fail objects feed zone old new → ShowsFrontOf choices shown can_fail objects feed zone old new
+shows_front choices shown can_fail objects feed zone old new h =
     (h.0, h.1, h.2, h.3, subst (λ text. WritesFront old new text) (report_told shown h.0 zone h.1) h.4)
 
 -- and so is a fault
-pub fails : (shown : ShownLines) (text_can_fail can_fail : Bool) (objects feed : List ℕ) (zone : Zone) (fault : CommandFault) (old new : Option (List ℕ))
-    → tells.FailsOf form_at shown text_can_fail can_fail objects feed zone fault old new → FailsOf shown text_can_fail can_fail objects feed zone fault old new
-fails shown text_can_fail can_fail objects feed zone (Objects fault) old new h = h
-fails shown text_can_fail can_fail objects feed zone Unreadable old new h = h
-fails shown text_can_fail can_fail objects feed zone Output old new h = shows_front shown can_fail objects feed zone old new h
-fails shown text_can_fail can_fail objects feed zone NoMemory old new (inl h) = inl h
-fails shown text_can_fail can_fail objects feed zone NoMemory old new (inr h) = inr (shows_front shown can_fail objects feed zone old new h)
+pub fails : (choices : Choices) (shown : ShownLines) (text_can_fail can_fail : Bool) (objects feed : List ℕ) (zone : Zone) (fault : CommandFault) (old new : Option (List ℕ))
+    → tells.FailsOf choices form_at shown text_can_fail can_fail objects feed zone fault old new → FailsOf choices shown text_can_fail can_fail objects feed zone fault old new
+fails choices shown text_can_fail can_fail objects feed zone (Objects fault) old new h = h
+fails choices shown text_can_fail can_fail objects feed zone Unreadable old new h = h
+fails choices shown text_can_fail can_fail objects feed zone Output old new h = shows_front choices shown can_fail objects feed zone old new h
+fails choices shown text_can_fail can_fail objects feed zone NoMemory old new (inl h) = inl h
+fails choices shown text_can_fail can_fail objects feed zone NoMemory old new (inr h) = inr (shows_front choices shown can_fail objects feed zone old new h)
 
 -- ---- of inputs whose bytes may be known
 

@@ -1,12 +1,13 @@
 -- The lines of a report that are wanted, in a form.
 use Rattle.std.specs.Prelude.{◌≡◌, ℕ, Bool, List, [], ◌++◌, filter, flat_map, Option, if◌then◌else◌}
+use Rattle.due_model.specs.declared.config.Choices.{Choices}
 use Rattle.due_model.specs.declared.config.Config.{Config}
 use Rattle.due_model.specs.declared.zone.Zone.{Zone}
 use Rattle.event_feed.specs.Feed.{Answer}
 use Rattle.command_output.specs.declared.outcome.CommandFault.{CommandFault}
 use Rattle.command_output.specs.declared.outcome.Ending.{Ending}
 use Rattle.written.specs.Written.{Writes, WritesFront}
-use Rattle.command_input.specs.Objects.{CommandFails, IsTextOf, feed_in, objects_in}
+use Rattle.command_input.specs.Objects.{CommandFails, IsTextBy, feed_in, objects_in}
 use Rattle.replay.specs.Replay.{AreOfFeed}
 use Rattle.replay.specs.Report.{ending_after}
 use Rattle.line_forms.specs.declared.report_line.ReportLine.{ReportLine}
@@ -36,36 +37,36 @@ shown_report shown c zone given =
 
 -- What was written is those lines of the report of the feed, for the configuration of the object text, and the reading
 -- ended so.
-abbrev pub ShowsOf : ShownLines → (can_fail : Bool) → (objects feed : List ℕ) → Zone → Ending
+abbrev pub ShowsOf : Choices → ShownLines → (can_fail : Bool) → (objects feed : List ℕ) → Zone → Ending
     → (old new : Option (List ℕ)) → Type 0
-ShowsOf shown can_fail objects feed zone ending old new =
-    (config : Config) × (given : List Answer) × IsTextOf config objects
+ShowsOf choices shown can_fail objects feed zone ending old new =
+    (config : Config) × (given : List Answer) × IsTextBy choices config objects
     × AreOfFeed can_fail config feed given × (ending ≡ ending_after [] given)
     × Writes old new (shown_report shown config zone given)
 
 -- what was written is a front of them
-abbrev pub ShowsFrontOf : ShownLines → (can_fail : Bool) → (objects feed : List ℕ) → Zone
+abbrev pub ShowsFrontOf : Choices → ShownLines → (can_fail : Bool) → (objects feed : List ℕ) → Zone
     → (old new : Option (List ℕ)) → Type 0
-ShowsFrontOf shown can_fail objects feed zone old new =
-    (config : Config) × (given : List Answer) × IsTextOf config objects
+ShowsFrontOf choices shown can_fail objects feed zone old new =
+    (config : Config) × (given : List Answer) × IsTextBy choices config objects
     × AreOfFeed can_fail config feed given
     × WritesFront old new (shown_report shown config zone given)
 
 -- what a fault says: a front of them is written at most
-abbrev pub FailsOf : ShownLines → (text_can_fail can_fail : Bool) → (objects feed : List ℕ) → Zone
+abbrev pub FailsOf : Choices → ShownLines → (text_can_fail can_fail : Bool) → (objects feed : List ℕ) → Zone
     → CommandFault → (old new : Option (List ℕ)) → Type 0
-FailsOf shown text_can_fail can_fail objects feed zone fault old new =
-    CommandFails text_can_fail objects fault old new
-    (ShowsFrontOf shown can_fail objects feed zone old new)
+FailsOf choices shown text_can_fail can_fail objects feed zone fault old new =
+    CommandFails choices text_can_fail objects fault old new
+    (ShowsFrontOf choices shown can_fail objects feed zone old new)
 
 -- ---- of one input, which has the object text, a mark, and the feed
 
-abbrev pub Shows : ShownLines → (can_fail : Bool) → List ℕ → Zone → Ending
+abbrev pub Shows : Choices → ShownLines → (can_fail : Bool) → List ℕ → Zone → Ending
     → (old new : Option (List ℕ)) → Type 0
-Shows shown can_fail bytes zone ending old new =
-    ShowsOf shown can_fail (objects_in bytes) (feed_in bytes) zone ending old new
+Shows choices shown can_fail bytes zone ending old new =
+    ShowsOf choices shown can_fail (objects_in bytes) (feed_in bytes) zone ending old new
 
-abbrev pub FailsWith : ShownLines → (can_fail : Bool) → List ℕ → Zone → CommandFault
+abbrev pub FailsWith : Choices → ShownLines → (can_fail : Bool) → List ℕ → Zone → CommandFault
     → (old new : Option (List ℕ)) → Type 0
-FailsWith shown can_fail bytes zone fault old new =
-    FailsOf shown can_fail can_fail (objects_in bytes) (feed_in bytes) zone fault old new
+FailsWith choices shown can_fail bytes zone fault old new =
+    FailsOf choices shown can_fail can_fail (objects_in bytes) (feed_in bytes) zone fault old new

@@ -7,6 +7,7 @@ ghost use Rattle.report_forms.specs.Shown.{FailsOf, FailsWith, Shows, ShowsOf};
 mod shown;
 
 use command_output::{CommandFault, Ending, Sink};
+use due_model::config::Choices;
 use due_model::zone::Zone;
 use progress::Watcher;
 use report_telling::{tell_files, tell_in};
@@ -19,6 +20,7 @@ use text_lines::Input;
 /// text is refused nothing is written; where the output fails or memory runs out, a front of those lines was.
 pub fn show_in<R: Input + Drop, W: Sink, P: Watcher>(
     alloc: Global,
+    choices: Choices,
     zone: &Zone,
     reader: R,
     shown: ShownLines<'_>,
@@ -27,22 +29,23 @@ pub fn show_in<R: Input + Drop, W: Sink, P: Watcher>(
 ) -> Result<Ending, CommandFault>
     // What is written is those lines of the report of the bytes read, and nothing else.
     ensures report { IfSome (R.remaining reader) (λ bytes. IfOk result (λ ending.
-        Shows shown.entry R.can_fail bytes zone.now ending
+        Shows choices shown.entry R.can_fail bytes zone.now ending
         (W.contents writer.old) (W.contents writer.new))) }
     // A fault says what was wrong, and what was written.
     ensures fault { IfSome (R.remaining reader) (λ bytes. IfErr result (λ fault.
-        FailsWith shown.entry R.can_fail bytes zone.now fault
+        FailsWith choices shown.entry R.can_fail bytes zone.now fault
         (W.contents writer.old) (W.contents writer.new))) }
     // The output failed only where a call of the writer did.
     ensures sure { W.can_fail ≡ false → ¬ IsErrOf result CommandFault.Output }
 {
-    tell_in(alloc, zone, reader, shown, writer, watcher)
+    tell_in(alloc, choices, zone, reader, shown, writer, watcher)
 }
 
 /// The same, where the object text is one input, all of it, and the feed another. The feed isn't read before the object
 /// text is accepted.
 pub fn show_files<O: Input + Drop, R: Input + Drop, W: Sink, P: Watcher>(
     alloc: Global,
+    choices: Choices,
     zone: &Zone,
     objects: O,
     feed: R,
@@ -51,12 +54,12 @@ pub fn show_files<O: Input + Drop, R: Input + Drop, W: Sink, P: Watcher>(
     watcher: &mut P,
 ) -> Result<Ending, CommandFault>
     ensures report { IfSome (O.remaining objects) (λ text. IfSome (R.remaining feed) (λ bytes.
-        IfOk result (λ ending. ShowsOf shown.entry R.can_fail text bytes zone.now ending
+        IfOk result (λ ending. ShowsOf choices shown.entry R.can_fail text bytes zone.now ending
         (W.contents writer.old) (W.contents writer.new)))) }
     ensures fault { IfSome (O.remaining objects) (λ text. IfSome (R.remaining feed) (λ bytes.
-        IfErr result (λ fault. FailsOf shown.entry O.can_fail R.can_fail text bytes zone.now fault
+        IfErr result (λ fault. FailsOf choices shown.entry O.can_fail R.can_fail text bytes zone.now fault
         (W.contents writer.old) (W.contents writer.new)))) }
     ensures sure { W.can_fail ≡ false → ¬ IsErrOf result CommandFault.Output }
 {
-    tell_files(alloc, zone, objects, feed, shown, writer, watcher)
+    tell_files(alloc, choices, zone, objects, feed, shown, writer, watcher)
 }

@@ -15,6 +15,7 @@ use command_input::{read_object_file, read_objects};
 use command_output::{CommandFault, Ending, Sink};
 use drawing::Drawing;
 pub use drawing::Picture;
+use due_model::config::Choices;
 use due_model::zone::Zone;
 pub use laws::what_is_drawn;
 use progress::Watcher;
@@ -22,13 +23,20 @@ use report_telling::Teller;
 use std::alloc::Global;
 use text_lines::{Input, LineReader};
 
+/// Whose rules decide, and the zone of local times.
+#[derive(Clone, Copy)]
+pub struct Site<'z> {
+    pub choices: Choices,
+    pub zone: &'z Zone,
+}
+
 /// Reads object text up to a line `%events`, and then a feed, tells the lines of the feed's report to a
 /// teller, whose text is written as it comes, and draws the picture of the feed once it is over. Where the
 /// object text is refused nothing is written; where the output fails or memory runs out, a front of what the
 /// teller writes was, and the picture isn't to be used.
 pub fn draw_in<R: Input + Drop, W: Sink, P: Watcher, T: Teller>(
     alloc: Global,
-    zone: &Zone,
+    site: Site<'_>,
     reader: R,
     teller: T,
     picture: &mut Picture,
@@ -38,18 +46,20 @@ pub fn draw_in<R: Input + Drop, W: Sink, P: Watcher, T: Teller>(
     // What is written is what the teller writes of the lines of the report, and the picture is that of the
     // same feed.
     ensures drawn { IfSome (R.remaining reader) (λ bytes. IfOk result (λ ending.
-        Draws (form_of T.told T.after T.ended) teller R.can_fail bytes zone.now ending
+        Draws site.entry.choices (form_of T.told T.after T.ended) teller R.can_fail bytes
+        site.entry.zone.now ending
         (W.contents writer.old) (W.contents writer.new) picture.old picture.new)) }
     // A fault says what was wrong, and what was written.
     ensures fault { IfSome (R.remaining reader) (λ bytes. IfErr result (λ fault.
-        FailsWith (form_of T.told T.after T.ended) teller R.can_fail bytes zone.now fault
+        FailsWith site.entry.choices (form_of T.told T.after T.ended) teller R.can_fail bytes
+        site.entry.zone.now fault
         (W.contents writer.old) (W.contents writer.new))) }
     // The output failed only where a call of the writer did.
     ensures sure { W.can_fail ≡ false → ¬ IsErrOf result CommandFault.Output }
 {
     let mut lines = LineReader::new(alloc, reader)?;
-    let config = read_objects(alloc, &mut lines)?;
-    let mut drawing = Drawing::new(alloc, &config, zone, teller, lines)?;
+    let config = read_objects(alloc, site.choices, &mut lines)?;
+    let mut drawing = Drawing::new(alloc, &config, site.zone, teller, lines)?;
     drawing.write(picture, writer, watcher)
 }
 
@@ -57,7 +67,7 @@ pub fn draw_in<R: Input + Drop, W: Sink, P: Watcher, T: Teller>(
 /// the object text is accepted.
 pub fn draw_files<O: Input + Drop, R: Input + Drop, W: Sink, P: Watcher, T: Teller>(
     alloc: Global,
-    zone: &Zone,
+    site: Site<'_>,
     objects: O,
     feed: R,
     teller: T,
@@ -66,15 +76,15 @@ pub fn draw_files<O: Input + Drop, R: Input + Drop, W: Sink, P: Watcher, T: Tell
     watcher: &mut P,
 ) -> Result<Ending, CommandFault>
     ensures drawn { IfSome (O.remaining objects) (λ text. IfSome (R.remaining feed) (λ bytes.
-        IfOk result (λ ending. DrawsOf (form_of T.told T.after T.ended) teller R.can_fail text bytes
-        zone.now ending (W.contents writer.old) (W.contents writer.new) picture.old picture.new))) }
+        IfOk result (λ ending. DrawsOf site.entry.choices (form_of T.told T.after T.ended) teller
+        R.can_fail text bytes site.entry.zone.now ending (W.contents writer.old) (W.contents writer.new) picture.old picture.new))) }
     ensures fault { IfSome (O.remaining objects) (λ text. IfSome (R.remaining feed) (λ bytes.
-        IfErr result (λ fault. FailsOf (form_of T.told T.after T.ended) teller O.can_fail R.can_fail
-        text bytes zone.now fault (W.contents writer.old) (W.contents writer.new)))) }
+        IfErr result (λ fault. FailsOf site.entry.choices (form_of T.told T.after T.ended) teller
+        O.can_fail R.can_fail text bytes site.entry.zone.now fault (W.contents writer.old) (W.contents writer.new)))) }
     ensures sure { W.can_fail ≡ false → ¬ IsErrOf result CommandFault.Output }
 {
-    let config = read_object_file(alloc, objects)?;
+    let config = read_object_file(alloc, site.choices, objects)?;
     let lines = LineReader::new(alloc, feed)?;
-    let mut drawing = Drawing::new(alloc, &config, zone, teller, lines)?;
+    let mut drawing = Drawing::new(alloc, &config, site.zone, teller, lines)?;
     drawing.write(picture, writer, watcher)
 }

@@ -1,5 +1,6 @@
 -- From what is told of a report to the lines of it for people.
 use Rattle.std.proofs.Common.{◌≡◌, ℕ, Bool, true, false, cond, List, [], ◌∷◌, ◌++◌, filter, flat_map, Option, Result, Ok, Err, None, Some, IfErr, IfOk, IfSome, refl, sym, ap, subst, ◌∙◌, inl, inr, append_assoc, unwrap_or}
+use Rattle.due_model.specs.declared.config.Choices.{Choices}
 use Rattle.due_model.specs.declared.config.Config.{Config}
 use Rattle.due_model.specs.declared.zone.Zone.{Zone}
 use Rattle.event_feed.specs.Feed.{Answer}
@@ -52,7 +53,7 @@ told_from pretty c zone (line ∷ lines) =
     append_assoc (told_line pretty c zone line) (told_all (form_at c zone) (after_line pretty c line) lines) ((form_at c zone).ended (after_all (form_at c zone) (after_line pretty c line) lines))
     ∙ one_more pretty c zone line lines (told_from (taken pretty c line) c zone lines) (told_from pretty c zone lines) (is_picked pretty.picks c line)
 
-module _ (pretty : PrettyLines) (picks : Picks) (coloured : Bool) (p : pretty.picks ≡ picks) (q : pretty.coloured ≡ coloured) (w : pretty.widths ≡ None) (r : pretty.runs ≡ no_runs) where
+module _ (choices : Choices) (pretty : PrettyLines) (picks : Picks) (coloured : Bool) (p : pretty.picks ≡ picks) (q : pretty.coloured ≡ coloured) (w : pretty.widths ≡ None) (r : pretty.runs ≡ no_runs) where
   pub report_told : (c : Config) (zone : Zone) (given : List Answer) → told_report (form_at c zone) pretty (report_lines c zone given) ≡ pretty_report picks coloured c zone given
   report_told c zone given =
       let lines = report_lines c zone given in
@@ -66,18 +67,18 @@ module _ (pretty : PrettyLines) (picks : Picks) (coloured : Bool) (p : pretty.pi
 
   -- what is told is the lines for people
   pub is_pretty : (can_fail : Bool) (objects feed : List ℕ) (zone : Zone) (ending : Ending) (old new : Option (List ℕ))
-      → tells.TellsOf form_at pretty can_fail objects feed zone ending old new → PrettyOf picks coloured can_fail objects feed zone ending old new
+      → tells.TellsOf choices form_at pretty can_fail objects feed zone ending old new → PrettyOf choices picks coloured can_fail objects feed zone ending old new
   is_pretty can_fail objects feed zone ending old new h =
       (h.0, h.1, h.2, h.3, h.4, subst (λ text. Writes old new text) (report_told h.0 zone h.1) h.5)
 
   pretty_front : (can_fail : Bool) (objects feed : List ℕ) (zone : Zone) (old new : Option (List ℕ))
-      → tells.TellsFrontOf form_at pretty can_fail objects feed zone old new → PrettyFrontOf picks coloured can_fail objects feed zone old new
+      → tells.TellsFrontOf choices form_at pretty can_fail objects feed zone old new → PrettyFrontOf choices picks coloured can_fail objects feed zone old new
   pretty_front can_fail objects feed zone old new h =
       (h.0, h.1, h.2, h.3, subst (λ text. WritesFront old new text) (report_told h.0 zone h.1) h.4)
 
   -- and so is a fault
   pub fails : (text_can_fail can_fail : Bool) (objects feed : List ℕ) (zone : Zone) (fault : CommandFault) (old new : Option (List ℕ))
-      → tells.FailsOf form_at pretty text_can_fail can_fail objects feed zone fault old new → FailsOf picks coloured text_can_fail can_fail objects feed zone fault old new
+      → tells.FailsOf choices form_at pretty text_can_fail can_fail objects feed zone fault old new → FailsOf choices picks coloured text_can_fail can_fail objects feed zone fault old new
   fails text_can_fail can_fail objects feed zone (Objects fault) old new h = h
   fails text_can_fail can_fail objects feed zone Unreadable old new h = h
   fails text_can_fail can_fail objects feed zone Output old new h = pretty_front can_fail objects feed zone old new h

@@ -1,12 +1,13 @@
 -- The lines of a report for people.
 use Rattle.std.specs.Prelude.{◌≡◌, ℕ, Bool, List, [], ◌∷◌, ◌++◌, filter, Option}
+use Rattle.due_model.specs.declared.config.Choices.{Choices}
 use Rattle.due_model.specs.declared.config.Config.{Config}
 use Rattle.due_model.specs.declared.zone.Zone.{Zone}
 use Rattle.event_feed.specs.Feed.{Answer}
 use Rattle.command_output.specs.declared.outcome.CommandFault.{CommandFault}
 use Rattle.command_output.specs.declared.outcome.Ending.{Ending}
 use Rattle.written.specs.Written.{Writes, WritesFront}
-use Rattle.command_input.specs.Objects.{CommandFails, IsTextOf, feed_in, objects_in}
+use Rattle.command_input.specs.Objects.{CommandFails, IsTextBy, feed_in, objects_in}
 use Rattle.replay.specs.Replay.{AreOfFeed}
 use Rattle.replay.specs.Report.{ending_after}
 use Rattle.line_forms.specs.declared.report_line.ReportLine.{ReportLine}
@@ -35,36 +36,36 @@ pretty_report picks coloured c zone given =
     (filter (is_picked picks c) (report_lines c zone given))
 
 -- What was written is that, of the report of the feed, for the configuration of the object text, and the reading ended so.
-abbrev pub PrettyOf : Picks → (coloured : Bool) → (can_fail : Bool) → (objects feed : List ℕ) → Zone
+abbrev pub PrettyOf : Choices → Picks → (coloured : Bool) → (can_fail : Bool) → (objects feed : List ℕ) → Zone
     → Ending → (old new : Option (List ℕ)) → Type 0
-PrettyOf picks coloured can_fail objects feed zone ending old new =
-    (config : Config) × (given : List Answer) × IsTextOf config objects
+PrettyOf choices picks coloured can_fail objects feed zone ending old new =
+    (config : Config) × (given : List Answer) × IsTextBy choices config objects
     × AreOfFeed can_fail config feed given × (ending ≡ ending_after [] given)
     × Writes old new (pretty_report picks coloured config zone given)
 
 -- what was written is a front of it
-abbrev pub PrettyFrontOf : Picks → (coloured : Bool) → (can_fail : Bool) → (objects feed : List ℕ)
+abbrev pub PrettyFrontOf : Choices → Picks → (coloured : Bool) → (can_fail : Bool) → (objects feed : List ℕ)
     → Zone → (old new : Option (List ℕ)) → Type 0
-PrettyFrontOf picks coloured can_fail objects feed zone old new =
-    (config : Config) × (given : List Answer) × IsTextOf config objects
+PrettyFrontOf choices picks coloured can_fail objects feed zone old new =
+    (config : Config) × (given : List Answer) × IsTextBy choices config objects
     × AreOfFeed can_fail config feed given
     × WritesFront old new (pretty_report picks coloured config zone given)
 
 -- what a fault says: a front of it is written at most
-abbrev pub FailsOf : Picks → (coloured : Bool) → (text_can_fail can_fail : Bool)
+abbrev pub FailsOf : Choices → Picks → (coloured : Bool) → (text_can_fail can_fail : Bool)
     → (objects feed : List ℕ) → Zone → CommandFault → (old new : Option (List ℕ)) → Type 0
-FailsOf picks coloured text_can_fail can_fail objects feed zone fault old new =
-    CommandFails text_can_fail objects fault old new
-    (PrettyFrontOf picks coloured can_fail objects feed zone old new)
+FailsOf choices picks coloured text_can_fail can_fail objects feed zone fault old new =
+    CommandFails choices text_can_fail objects fault old new
+    (PrettyFrontOf choices picks coloured can_fail objects feed zone old new)
 
 -- ---- of one input, which has the object text, a mark, and the feed
 
-abbrev pub IsPretty : Picks → (coloured : Bool) → (can_fail : Bool) → List ℕ → Zone → Ending
+abbrev pub IsPretty : Choices → Picks → (coloured : Bool) → (can_fail : Bool) → List ℕ → Zone → Ending
     → (old new : Option (List ℕ)) → Type 0
-IsPretty picks coloured can_fail bytes zone ending old new =
-    PrettyOf picks coloured can_fail (objects_in bytes) (feed_in bytes) zone ending old new
+IsPretty choices picks coloured can_fail bytes zone ending old new =
+    PrettyOf choices picks coloured can_fail (objects_in bytes) (feed_in bytes) zone ending old new
 
-abbrev pub FailsWith : Picks → (coloured : Bool) → (can_fail : Bool) → List ℕ → Zone
+abbrev pub FailsWith : Choices → Picks → (coloured : Bool) → (can_fail : Bool) → List ℕ → Zone
     → CommandFault → (old new : Option (List ℕ)) → Type 0
-FailsWith picks coloured can_fail bytes zone fault old new =
-    FailsOf picks coloured can_fail can_fail (objects_in bytes) (feed_in bytes) zone fault old new
+FailsWith choices picks coloured can_fail bytes zone fault old new =
+    FailsOf choices picks coloured can_fail can_fail (objects_in bytes) (feed_in bytes) zone fault old new

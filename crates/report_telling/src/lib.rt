@@ -16,7 +16,7 @@ mod told_lines;
 
 use command_input::{read_object_file, read_objects};
 use command_output::{CommandFault, Ending, Sink};
-use due_model::config::Config;
+use due_model::config::{Choices, Config};
 use due_model::zone::Zone;
 pub use laws::lines_are_the_report;
 use progress::Watcher;
@@ -31,6 +31,7 @@ use text_lines::{Input, LineReader};
 /// output fails or memory runs out, a front of what the teller writes was.
 pub fn tell_in<R: Input + Drop, W: Sink, P: Watcher, T: Teller>(
     alloc: Global,
+    choices: Choices,
     zone: &Zone,
     reader: R,
     teller: T,
@@ -39,17 +40,17 @@ pub fn tell_in<R: Input + Drop, W: Sink, P: Watcher, T: Teller>(
 ) -> Result<Ending, CommandFault>
     // What is written is what the teller writes of the lines of the report, and nothing else.
     ensures report { IfSome (R.remaining reader) (λ bytes. IfOk result (λ ending.
-        Tells (form_of T.told T.after T.ended) teller R.can_fail bytes zone.now ending
+        Tells choices (form_of T.told T.after T.ended) teller R.can_fail bytes zone.now ending
         (W.contents writer.old) (W.contents writer.new))) }
     // A fault says what was wrong, and what was written.
     ensures fault { IfSome (R.remaining reader) (λ bytes. IfErr result (λ fault.
-        FailsWith (form_of T.told T.after T.ended) teller R.can_fail bytes zone.now fault
+        FailsWith choices (form_of T.told T.after T.ended) teller R.can_fail bytes zone.now fault
         (W.contents writer.old) (W.contents writer.new))) }
     // The output failed only where a call of the writer did.
     ensures sure { W.can_fail ≡ false → ¬ IsErrOf result CommandFault.Output }
 {
     let mut lines = LineReader::new(alloc, reader)?;
-    let config = read_objects(alloc, &mut lines)?;
+    let config = read_objects(alloc, choices, &mut lines)?;
     let mut telling = Telling::new(alloc, &config, zone, teller, lines)?;
     telling.write(writer, watcher)
 }
@@ -58,6 +59,7 @@ pub fn tell_in<R: Input + Drop, W: Sink, P: Watcher, T: Teller>(
 /// text is accepted.
 pub fn tell_files<O: Input + Drop, R: Input + Drop, W: Sink, P: Watcher, T: Teller>(
     alloc: Global,
+    choices: Choices,
     zone: &Zone,
     objects: O,
     feed: R,
@@ -66,14 +68,14 @@ pub fn tell_files<O: Input + Drop, R: Input + Drop, W: Sink, P: Watcher, T: Tell
     watcher: &mut P,
 ) -> Result<Ending, CommandFault>
     ensures report { IfSome (O.remaining objects) (λ text. IfSome (R.remaining feed) (λ bytes.
-        IfOk result (λ ending. TellsOf (form_of T.told T.after T.ended) teller R.can_fail text bytes
+        IfOk result (λ ending. TellsOf choices (form_of T.told T.after T.ended) teller R.can_fail text bytes
         zone.now ending (W.contents writer.old) (W.contents writer.new)))) }
     ensures fault { IfSome (O.remaining objects) (λ text. IfSome (R.remaining feed) (λ bytes.
-        IfErr result (λ fault. FailsOf (form_of T.told T.after T.ended) teller O.can_fail R.can_fail
+        IfErr result (λ fault. FailsOf choices (form_of T.told T.after T.ended) teller O.can_fail R.can_fail
         text bytes zone.now fault (W.contents writer.old) (W.contents writer.new)))) }
     ensures sure { W.can_fail ≡ false → ¬ IsErrOf result CommandFault.Output }
 {
-    let config = read_object_file(alloc, objects)?;
+    let config = read_object_file(alloc, choices, objects)?;
     let lines = LineReader::new(alloc, feed)?;
     let mut telling = Telling::new(alloc, &config, zone, teller, lines)?;
     telling.write(writer, watcher)

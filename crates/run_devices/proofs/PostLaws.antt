@@ -5,6 +5,7 @@ use Rattle.std.proofs.lemmas.List.{length-map, map-append, take_all, take_more}
 use Rattle.std.proofs.lemmas.Bool.{cases_Bool}
 use Rattle.channel_words.specs.Lanes.{channels_for}
 use Rattle.command_output.specs.declared.outcome.Ending.{Ending}
+use Rattle.due_model.specs.declared.config.Choices.{Choices}
 use Rattle.due_model.specs.declared.config.Config.{Config}
 use Rattle.due_model.specs.declared.config.LaneId.{LaneId}
 use Rattle.due_model.specs.declared.zone.Zone.{Zone}
@@ -127,8 +128,8 @@ numbers_more {P} {D} channel_of posts new p before x grown its so_far =
     ∙ sym (numbered_more 0 before x)
 
 -- what was opened is the same where it is told otherwise
-pub opened_same : {texts : List (List ℕ)} {config : Config} {lanes : List LaneId} {xs ys : List Opened} → AreOpened texts config lanes xs → xs ≡ ys → AreOpened texts config lanes ys
-opened_same {texts} {config} {lanes} right same = subst (λ (os : List Opened). AreOpened texts config lanes os) same right
+pub opened_same : {choices : Choices} {texts : List (List ℕ)} {config : Config} {lanes : List LaneId} {xs ys : List Opened} → AreOpened choices texts config lanes xs → xs ≡ ys → AreOpened choices texts config lanes ys
+opened_same {choices} {texts} {config} {lanes} right same = subst (λ (os : List Opened). AreOpened choices texts config lanes os) same right
 
 -- lists that give the same are of one length
 pub same_length : {X Y Z : Type 0} (f : X → Z) (g : Y → Z) (xs : List X) (ys : List Y) → map f xs ≡ map g ys → length xs ≡ length ys
@@ -141,9 +142,9 @@ each_opened kind word_kind name named lane_of channels words lanes kinds names =
     same_length kind word_kind channels words kinds ∙ sym (length-map words name) ∙ same_length named lane_of (map name words) lanes names
 
 -- a fault of none of its channels, after all checks
-pub fails_without_memory : (texts : List (List ℕ)) (config : Config) (lanes : List LaneId) → AreRight texts config lanes → RunFails texts (faults.Command memory.NoMemory)
-fails_without_memory texts config lanes right = (right.words, right.read)
+pub fails_without_memory : (choices : Choices) (texts : List (List ℕ)) (config : Config) (lanes : List LaneId) → AreRight choices texts config lanes → RunFails texts (faults.Command memory.NoMemory)
+fails_without_memory choices texts config lanes right = (right.words, right.read)
 
-pub command_fails : (texts : List (List ℕ)) (fault : RunFault) (config : Config) (lanes : List LaneId) → AreRight texts config lanes → IsCommandFault fault → RunFails texts fault
-command_fails texts (faults.Channel fault) config lanes right is = absurd is
-command_fails texts (faults.Command fault) config lanes right is = (right.words, right.read)
+pub command_fails : (choices : Choices) (texts : List (List ℕ)) (fault : RunFault) (config : Config) (lanes : List LaneId) → AreRight choices texts config lanes → IsCommandFault fault → RunFails texts fault
+command_fails choices texts (faults.Channel fault) config lanes right is = absurd is
+command_fails choices texts (faults.Command fault) config lanes right is = (right.words, right.read)

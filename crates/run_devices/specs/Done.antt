@@ -3,6 +3,7 @@ use Rattle.std.specs.Prelude.{◌≡◌, ℕ, Bool, true, false, List, map, Opti
 use Rattle.channel.specs.Channels.{Account, Offer}
 use Rattle.channel_words.specs.Lanes.{channels_for}
 use Rattle.command_output.specs.declared.outcome.Ending.{Ending}
+use Rattle.due_model.specs.declared.config.Choices.{Choices}
 use Rattle.due_model.specs.declared.config.Config.{Config}
 use Rattle.due_model.specs.declared.config.LaneId.{LaneId}
 use Rattle.due_model.specs.declared.zone.Zone.{Zone}
@@ -37,22 +38,22 @@ RunsWith {C} account offered items channel_of can_fail is_open c zone tries lane
     × (map (λ post. channel_of post.channel) posts ≡ channels)
     × WritesRun account offered items can_fail is_open c zone tries posts given_back known ending before after
 
--- All checks of the words of these texts went well: they name these lanes by an accepted configuration, and the channels are opened as
+-- All checks of the words of these texts went well: they name these lanes by an accepted configuration of these choices, and the channels are opened as
 -- they ask for them, in their order.
-pub record AreOpened (texts : List (List ℕ)) (config : Config) (lanes : List LaneId) (channels : List Opened) : Type 0 where
-  pub right : AreRight texts config lanes
+pub record AreOpened (choices : Choices) (texts : List (List ℕ)) (config : Config) (lanes : List LaneId) (channels : List Opened) : Type 0 where
+  pub right : AreRight choices texts config lanes
   pub each : channels ≡ asked_from 0 right.words
 
 -- All checks of the words of these texts went well, their channels were opened, and the report of a run of the feed was written: by an
 -- accepted configuration, each channel on the lane that its word names.
 pub record IsDone {C V : Type 0} (account : C → Account) (offered : C → List Offer → C → Type 0) (items : V → List C)
-    (opened : C → Opened) (texts : List (List ℕ)) (can_fail is_open : Bool) (zone : Zone) (tries : ℕ) (given_back : List V)
+    (opened : C → Opened) (choices : Choices) (texts : List (List ℕ)) (can_fail is_open : Bool) (zone : Zone) (tries : ℕ) (given_back : List V)
     (known : Option (List ℕ)) (ending : Ending) (before after : Option (List ℕ)) : Type 0 where
   pub config : Config
   pub lanes : List LaneId
   pub posts : List (Post C)
   pub posted : map (λ post. post.lane) posts ≡ lanes
-  pub right : AreOpened texts config lanes (map (λ post. opened post.channel) posts)
+  pub right : AreOpened choices texts config lanes (map (λ post. opened post.channel) posts)
   pub report : WritesRun account offered items can_fail is_open config zone tries posts given_back known ending before after
 
 -- The ends of the lanes of a run of the feed were written, with these channels, and nothing else; and lane by lane, what the lanes took is what
@@ -82,11 +83,11 @@ RunsLogged {C} account offered items channel_of can_fail is_open c zone tries la
 -- All checks of the words of these texts went well, their channels were opened, and a run of the feed was done: by an accepted configuration,
 -- each channel on the lane that its word names.
 pub record IsLogged {C V : Type 0} (account : C → Account) (offered : C → List Offer → C → Type 0) (items : V → List C)
-    (opened : C → Opened) (texts : List (List ℕ)) (can_fail is_open : Bool) (zone : Zone) (tries : ℕ) (given_back : List V)
+    (opened : C → Opened) (choices : Choices) (texts : List (List ℕ)) (can_fail is_open : Bool) (zone : Zone) (tries : ℕ) (given_back : List V)
     (known : Option (List ℕ)) (ending : Ending) (before after : Option (List ℕ)) : Type 0 where
   pub config : Config
   pub lanes : List LaneId
   pub posts : List (Post C)
   pub posted : map (λ post. post.lane) posts ≡ lanes
-  pub right : AreOpened texts config lanes (map (λ post. opened post.channel) posts)
+  pub right : AreOpened choices texts config lanes (map (λ post. opened post.channel) posts)
   pub report : WritesLogged account offered items can_fail is_open config zone tries posts given_back known ending before after

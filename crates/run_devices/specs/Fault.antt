@@ -1,5 +1,5 @@
 -- What a run is given up for, and how the program then ends.
-use Rattle.std.specs.Prelude.{ℕ, ◌⊎◌, Bool, List, Option, Result, Ok, Err}
+use Rattle.std.specs.Prelude.{◌≡◌, ℕ, ◌⊎◌, Bool, List, Option, Result, Ok, Err}
 use Rattle.channel_words.specs.declared.fault.ChannelFault.{ChannelFault}
 use Rattle.channel_words.specs.declared.word.ChannelWord.{ChannelWord}
 use Rattle.channel_words.specs.Fault.{fault_status as channel_status}
@@ -8,6 +8,7 @@ use Rattle.channel_words.specs.Words.{AreRead, ShapeFails}
 use Rattle.command_input.specs.Objects.{FileFails, IsFileOf}
 use Rattle.command_output.specs.declared.outcome.Ending.{Ending}
 use Rattle.command_output.specs.Outcome.{ending_status, fault_status}
+use Rattle.due_model.specs.declared.config.Choices.{Choices}
 use Rattle.due_model.specs.declared.config.Config.{Config}
 use Rattle.due_model.specs.declared.config.LaneId.{LaneId}
 use Rattle.due_model.specs.Accepted.{IsAccepted}
@@ -32,25 +33,27 @@ NamesOrOpeningFail words fault =
     × IsOpeningFault (names_of words) fault))
 
 -- What is wrong with the object text, or by it with the names of words, where its bytes are known.
-abbrev pub ChecksFail : (can_fail : Bool) → (known : Option (List ℕ)) → (names : List (List ℕ))
+abbrev pub ChecksFail : Choices → (can_fail : Bool) → (known : Option (List ℕ)) → (names : List (List ℕ))
     → RunFault → Type 0
-ChecksFail can_fail known names (Channel fault) =
-    (config : Config) × IsAccepted config × IsFileOf config known × NamesFail config names fault
-ChecksFail can_fail known names (Command fault) = FileFails can_fail fault known
+ChecksFail choices can_fail known names (Channel fault) =
+    (config : Config) × IsAccepted config × IsFileOf choices config known × NamesFail config names fault
+ChecksFail choices can_fail known names (Command fault) = FileFails choices can_fail fault known
 
 -- the configuration of the text, where its bytes are known, and the lanes of the names
-pub record AreChecked (known : Option (List ℕ)) (names : List (List ℕ)) (config : Config)
+pub record AreChecked (choices : Choices) (known : Option (List ℕ)) (names : List (List ℕ)) (config : Config)
     (lanes : List LaneId) : Type 0 where
   pub accepted : IsAccepted config
-  pub text : IsFileOf config known
+  pub by : config.choices ≡ choices
+  pub text : IsFileOf choices config known
   pub lanes_are : AreLanesOf config names lanes
 
 -- What was right before the channels were opened: the shape of the texts of all words and, by this accepted configuration,
--- their names, which are of these lanes.
-pub record AreRight (texts : List (List ℕ)) (config : Config) (lanes : List LaneId) : Type 0 where
+-- which has these choices, their names, which are of these lanes.
+pub record AreRight (choices : Choices) (texts : List (List ℕ)) (config : Config) (lanes : List LaneId) : Type 0 where
   pub words : List ChannelWord
   pub read : AreRead texts words
   pub accepted : IsAccepted config
+  pub by : config.choices ≡ choices
   pub lanes_are : AreLanesOf config (names_of words) lanes
 
 -- First the shape of the texts of all words; the rest is only looked at where that is right.

@@ -76,19 +76,14 @@ pub fn do_logged_run<'m, 'a, T: Threads + Wait + Clock + Sync, R: Input + Drop, 
         (unwrap_or (option_map (λ given. given.now) words.entry.channels) [])
         in IfOk result (λ done. IsLogged ⟦<CountedChannel<OpenedChannel> as Channel>⟧.account
         ⟦<CountedChannel<OpenedChannel> as Channel>⟧.offered (λ cs. cs.items) (λ c. opened c.channel)
-        texts R.can_fail (is_none settings.ahead) zone.now settings.settings.tries done.channels.items (R.remaining feed) done.ending
+        settings.choices texts R.can_fail (is_none settings.ahead) zone.now settings.settings.tries done.channels.items (R.remaining feed) done.ending
         (W.contents writer.old) (W.contents writer.new)) }
     // What it fails with, and that the earlier checks went well.
     ensures fault { let texts = map (λ text. text.now)
         (unwrap_or (option_map (λ given. given.now) words.entry.channels) [])
         in IfErr result (RunFails texts) }
 {
-    let (config, lanes, channels) = open_words(
-        rt,
-        words.objects,
-        words.channels,
-        settings.limit(),
-    )?;
+    let (config, lanes, channels) = open_words(rt, words.objects, words.channels, settings)?;
     let done = log_through(
         rt,
         threads,

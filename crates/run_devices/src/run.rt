@@ -18,7 +18,7 @@ use channel::Channel;
 use channel_words::{ChannelWord, lanes_of, read_words};
 use command_input::read_object_file;
 use command_output::{CommandFault, Ending, Sink};
-use due_model::config::{Config, LaneId};
+use due_model::config::{Choices, Config, LaneId};
 use due_model::zone::Zone;
 use engine::{Closers, LimitedFeed, Post};
 use progress::Counts;
@@ -29,7 +29,7 @@ use std::alloc::{AllocError, Global};
 use std::fs::File;
 use std::sync::{Arc, Wait};
 use std::thread::Threads;
-use std::time::{Clock, Duration};
+use std::time::Clock;
 use text_lines::{AnyReader, Input};
 
 /// A channel of a run: it was opened as a word says, and counts what it takes.
@@ -73,14 +73,14 @@ pub fn do_run<'m, 'a, T: Threads + Wait + Clock + Sync, R: Input + Drop, W: Sink
         (unwrap_or (option_map (λ given. given.now) words.entry.channels) [])
         in IfOk result (λ done. IsDone ⟦<CountedChannel<OpenedChannel> as Channel>⟧.account
         ⟦<CountedChannel<OpenedChannel> as Channel>⟧.offered (λ cs. cs.items) (λ c. opened c.channel)
-        texts R.can_fail (is_none settings.ahead) zone.now settings.settings.tries done.channels.items (R.remaining feed) done.ending
+        settings.choices texts R.can_fail (is_none settings.ahead) zone.now settings.settings.tries done.channels.items (R.remaining feed) done.ending
         (W.contents writer.old) (W.contents writer.new)) }
     // What it fails with, and that the earlier checks went well.
     ensures fault { let texts = map (λ text. text.now)
         (unwrap_or (option_map (λ given. given.now) words.entry.channels) [])
         in IfErr result (RunFails texts) }
 {
-    let (config, lanes, opened) = open_words(rt, words.objects, words.channels, settings.limit())?;
+    let (config, lanes, opened) = open_words(rt, words.objects, words.channels, settings)?;
     let metrics = metrics_at(rt, &config, settings.settings.deciders, words.metrics)?;
     let watched = Watched::new(rt, threads, settings.quiet, None, metrics)?;
     let done = run_through(
@@ -94,11 +94,11 @@ pub(crate) fn open_words<'a>(
     rt: &HostRuntime,
     objects: &str,
     channels: Option<&[&'a str]>,
-    limit: Duration,
+    settings: RunSettings,
 ) -> Result<(Config, Vec<LaneId>, Vec<OpenedChannel>), RunFault<'a>>
     ensures right { let texts = map (λ text. text.now)
         (unwrap_or (option_map (λ given. given.now) channels.entry) [])
-        in IfOk result (λ found. AreOpened texts found.0 found.1.items
+        in IfOk result (λ found. AreOpened settings.choices texts found.0 found.1.items
         (map opened (numbered_from 0 found.2.items))) }
     ensures each { IfOk result (λ found. length found.2.items ≡ length found.1.items) }
     ensures fault { let texts = map (λ text. text.now)
@@ -110,8 +110,8 @@ pub(crate) fn open_words<'a>(
     let Ok(file) = File::open(rt, objects) else {
         return Err(RunFault::Command(CommandFault::Unreadable));
     };
-    let (config, lanes) = checked(alloc, AnyReader::new(file), &words)?;
-    let opened = open_channels(rt, &words, limit)?;
+    let (config, lanes) = checked(alloc, settings.choices, AnyReader::new(file), &words)?;
+    let opened = open_channels(rt, &words, settings.limit())?;
     Ok((config, lanes, opened))
 }
 
@@ -125,19 +125,20 @@ pub fn texts_of<'m, 'a>(channels: Option<&'m [&'a str]>) -> &'m [&'a str]
     }
 }
 
-/// The configuration of object text, and the lanes that words name by it, one for each in order. The shape of the words
+/// The configuration of object text by these choices, and the lanes that words name by it, one for each in order. The shape of the words
 /// was right.
 pub fn checked<'a, O: Input + Drop>(
     alloc: Global,
+    choices: Choices,
     objects: O,
     words: &[ChannelWord<'a>],
 ) -> Result<(Config, Vec<LaneId>), RunFault<'a>>
     ensures checked { IfOk result (λ found.
-        AreChecked (O.remaining objects) (names_of words.now) found.0 found.1.items) }
-    ensures fault { IfErr result (ChecksFail O.can_fail (O.remaining objects)
+        AreChecked choices (O.remaining objects) (names_of words.now) found.0 found.1.items) }
+    ensures fault { IfErr result (ChecksFail choices O.can_fail (O.remaining objects)
         (names_of words.now)) }
 {
-    let config = read_object_file(alloc, objects)?;
+    let config = read_object_file(alloc, choices, objects)?;
     let lanes = lanes_of(alloc, &config, words)?;
     Ok((config, lanes))
 }

@@ -2,6 +2,7 @@
 
 ghost use Rattle.std.specs.Prelude.{◌≡◌, ◌*◌, ◌^◌, ◌-◌, min};
 
+use due_model::config::Choices;
 use std::time::Duration;
 use steps::Settings;
 
@@ -11,6 +12,8 @@ const LONGEST: u8 = 60;
 /// How a run is set up, beside its configuration and its channels.
 #[derive(Clone, Copy, Debug)]
 pub struct RunSettings {
+    /// Whose rules decide.
+    pub choices: Choices,
     /// How many deciders there are, how many notices a lane's queue holds, and how often a letter is tried.
     pub settings: Settings,
     /// How long a pager or a program may take for a try, in seconds: at least 1.

@@ -1,6 +1,7 @@
 -- What a run that goes on fails with, and what it begins with.
 use Rattle.std.proofs.Common.{◌≡◌, ◌∙◌, ℕ, ◌+◌, List, [], ◌∷◌, length, get_or, map, drop, refl, sym, ap, ap₂, subst, arith}
 use Rattle.std.proofs.lemmas.List.{length-map}
+use Rattle.due_model.specs.declared.config.Choices.{Choices}
 use Rattle.due_model.specs.declared.config.Config.{Config}
 use Rattle.due_model.specs.declared.config.LaneId.{LaneId}
 use Rattle.channel_words.specs.declared.word.ChannelWord.{ChannelWord}
@@ -21,34 +22,36 @@ use Rattle.run_resumed.specs.Fault.{IsNoChannelFault, ResumeFails}
 -- ---- its faults
 
 -- a fault of none of its channels, after all checks of the words
-pub right_fails : (texts : List (List ℕ)) (fault : ResumeFault) (config : Config) (lanes : List LaneId) → AreRight texts config lanes → IsNoChannelFault fault → ResumeFails texts fault
-right_fails texts (resumes.Run (faults.Channel fault)) config lanes right is = absurd is
-right_fails texts (resumes.Run (faults.Command fault)) config lanes right is = (right.words, right.read)
-right_fails texts resumes.State config lanes right is = (config, lanes, right)
+pub right_fails : (choices : Choices) (texts : List (List ℕ)) (fault : ResumeFault) (config : Config) (lanes : List LaneId) → AreRight choices texts config lanes → IsNoChannelFault fault → ResumeFails texts fault
+right_fails choices texts (resumes.Run (faults.Channel fault)) config lanes right is = absurd is
+right_fails choices texts (resumes.Run (faults.Command fault)) config lanes right is = (right.words, right.read)
+right_fails choices texts resumes.State config lanes right is = (choices, config, lanes, right)
 
 -- a fault of any command, after them
-pub command_fails : (texts : List (List ℕ)) (fault : CommandFault) (config : Config) (lanes : List LaneId) → AreRight texts config lanes
+pub command_fails : (choices : Choices) (texts : List (List ℕ)) (fault : CommandFault) (config : Config) (lanes : List LaneId) → AreRight choices texts config lanes
     → ResumeFails texts (resumes.Run (faults.Command fault))
-command_fails texts fault config lanes right = (right.words, right.read)
+command_fails choices texts fault config lanes right = (right.words, right.read)
 
 -- what was right, by what was found one after another
-pub are_right : (texts : List (List ℕ)) (words words' : List ChannelWord) (config : Config) (lanes : List LaneId) → AreRead texts words → IsAccepted config → words' ≡ words
-    → AreLanesOf config (names_of words') lanes → AreRight texts config lanes
-are_right texts words words' config lanes read accepted same lanes_are = record {
+pub are_right : (choices : Choices) (texts : List (List ℕ)) (words words' : List ChannelWord) (config : Config) (lanes : List LaneId) → AreRead texts words → IsAccepted config
+    → config.choices ≡ choices → words' ≡ words → AreLanesOf config (names_of words') lanes → AreRight choices texts config lanes
+are_right choices texts words words' config lanes read accepted by same lanes_are = record {
   words = words;
   read = read;
   accepted = accepted;
+  by = by;
   lanes_are = subst (λ (ws : List ChannelWord). AreLanesOf config (names_of ws) lanes) same lanes_are;
 }
 
 -- and its channels were opened, as these words ask for them
-pub are_opened : (texts : List (List ℕ)) (words words' : List ChannelWord) (config : Config) (lanes : List LaneId) (channels : List Opened) → AreRead texts words → IsAccepted config
-    → words' ≡ words → AreLanesOf config (names_of words') lanes → channels ≡ asked_from 0 words → AreOpened texts config lanes channels
-are_opened texts words words' config lanes channels read accepted same lanes_are is = record {
+pub are_opened : (choices : Choices) (texts : List (List ℕ)) (words words' : List ChannelWord) (config : Config) (lanes : List LaneId) (channels : List Opened) → AreRead texts words → IsAccepted config
+    → config.choices ≡ choices → words' ≡ words → AreLanesOf config (names_of words') lanes → channels ≡ asked_from 0 words → AreOpened choices texts config lanes channels
+are_opened choices texts words words' config lanes channels read accepted by same lanes_are is = record {
   right = record {
     words = words;
     read = read;
     accepted = accepted;
+    by = by;
     lanes_are = subst (λ (ws : List ChannelWord). AreLanesOf config (names_of ws) lanes) same lanes_are;
   };
   each = is;
@@ -73,12 +76,13 @@ numbered_asked {W} {S} {D} {R} number (h ∷ channels) (w ∷ words) is =
     ap₂ (λ (o : Opened) (os : List Opened). record o { number = number } ∷ os) (same_head is) (numbered_asked (number + 1) channels words (same_tail is))
 
 -- what was opened is the same where it is told otherwise
-pub opened_same : {texts : List (List ℕ)} {config : Config} {lanes : List LaneId} {xs ys : List Opened} → AreOpened texts config lanes xs → xs ≡ ys → AreOpened texts config lanes ys
-opened_same {texts} {config} {lanes} right same = subst (λ (os : List Opened). AreOpened texts config lanes os) same right
+pub opened_same : {choices : Choices} {texts : List (List ℕ)} {config : Config} {lanes : List LaneId} {xs ys : List Opened} → AreOpened choices texts config lanes xs → xs ≡ ys → AreOpened choices texts config lanes ys
+opened_same {choices} {texts} {config} {lanes} right same = subst (λ (os : List Opened). AreOpened choices texts config lanes os) same right
 
 -- and by a configuration that is the same
-pub opened_by : {texts : List (List ℕ)} {config config' : Config} {lanes : List LaneId} {xs : List Opened} → AreOpened texts config lanes xs → config' ≡ config → AreOpened texts config' lanes xs
-opened_by {texts} {config} {config'} {lanes} {xs} right same = subst (λ (c : Config). AreOpened texts c lanes xs) (sym same) right
+pub opened_by : {choices : Choices} {texts : List (List ℕ)} {config config' : Config} {lanes : List LaneId} {xs : List Opened} → AreOpened choices texts config lanes xs → config' ≡ config
+    → AreOpened choices texts config' lanes xs
+opened_by {choices} {texts} {config} {config'} {lanes} {xs} right same = subst (λ (c : Config). AreOpened choices texts c lanes xs) (sym same) right
 
 -- lists that give the same are of one length
 same_length : {X Y Z : Type 0} (f : X → Z) (g : Y → Z) (xs : List X) (ys : List Y) → map f xs ≡ map g ys → length xs ≡ length ys

@@ -1,5 +1,6 @@
 -- What a run that goes on is given up for, and how the program then ends.
 use Rattle.std.specs.Prelude.{ℕ, List, ⊤}
+use Rattle.due_model.specs.declared.config.Choices.{Choices}
 use Rattle.due_model.specs.declared.config.Config.{Config}
 use Rattle.due_model.specs.declared.config.LaneId.{LaneId}
 use Rattle.run_devices.specs.Fault.{AreRight, IsCommandFault, RunFails, run_fault_status}
@@ -13,7 +14,9 @@ resume_status State = 1
 -- As any run; or for its journals, which are looked at only where all words are right.
 abbrev pub ResumeFails : (texts : List (List ℕ)) → ResumeFault → Type 0
 ResumeFails texts (Run fault) = RunFails texts fault
-ResumeFails texts State = (config : Config) × (lanes : List LaneId) × AreRight texts config lanes
+ResumeFails texts State =
+    (choices : Choices) × (config : Config) × (lanes : List LaneId)
+    × AreRight choices texts config lanes
 
 -- it is none of its channels
 abbrev pub IsNoChannelFault : ResumeFault → Type 0

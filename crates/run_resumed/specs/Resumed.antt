@@ -5,6 +5,7 @@ use Rattle.channel.specs.declared.Receipt.{Receipt}
 use Rattle.channel_words.specs.Lanes.{channels_for}
 use Rattle.command_output.specs.declared.outcome.Ending.{Ending}
 use Rattle.due_feed.specs.Seen.{due_of, past_of}
+use Rattle.due_model.specs.declared.config.Choices.{Choices}
 use Rattle.due_model.specs.declared.config.Config.{Config}
 use Rattle.due_model.specs.declared.config.LaneId.{LaneId}
 use Rattle.due_model.specs.declared.notice.Notice.{Notice}
@@ -176,13 +177,13 @@ pub record AreKept {F J : Type 0} (says : F → Config → LaneId → LanePast �
   pub left : AreLeft says goes_on wrote journals c drops states
   pub given_up : from_now ≡ true → IsGivenUpSoFar knows begins replaced wrote journals c zone
 
--- All checks of the words of these texts went well, by an accepted configuration; each channel is one that was opened as its word asks,
+-- All checks of the words of these texts went well, by an accepted configuration of these choices; each channel is one that was opened as its word asks,
 -- over a journal of its lane; the states are what the journals say; and what the feed's file made due when it was read is what was sent.
-pub record AreReady {C W : Type 0} (opened : C → Opened) (are_kept : Config → List LaneState → Type 0) (texts : List (List ℕ)) (zone : Zone)
+pub record AreReady {C W : Type 0} (opened : C → Opened) (are_kept : Config → List LaneState → Type 0) (choices : Choices) (texts : List (List ℕ)) (zone : Zone)
     (config : Config) (states : List LaneState) (posts : List (Post (Wrapped C (Text W)))) : Type 0 where
   pub lanes : List LaneId
   pub posted : map (λ post. post.lane) posts ≡ lanes
-  pub right : AreOpened texts config lanes (map (λ post. opened post.channel.inner) posts)
+  pub right : AreOpened choices texts config lanes (map (λ post. opened post.channel.inner) posts)
   pub each : All (IsResumedPost config states) posts
   pub kept : are_kept config states
   pub due : List Answer
@@ -191,12 +192,12 @@ pub record AreReady {C W : Type 0} (opened : C → Opened) (are_kept : Config �
 -- All that was so before the feed was read; the report of the run was written, and after it the line of each lane's journals.
 pub record IsGoneOn {C W V : Type 0} (inner : C → Account) (account : Wrapped C (Text W) → Account)
     (offered : Wrapped C (Text W) → List Offer → Wrapped C (Text W) → Type 0) (items : V → List (Wrapped C (Text W))) (opened : C → Opened)
-    (are_kept : Config → List LaneState → Type 0) (texts : List (List ℕ)) (can_fail is_open : Bool) (zone : Zone) (tries : ℕ) (given_back : List V) (known : Option (List ℕ))
+    (are_kept : Config → List LaneState → Type 0) (choices : Choices) (texts : List (List ℕ)) (can_fail is_open : Bool) (zone : Zone) (tries : ℕ) (given_back : List V) (known : Option (List ℕ))
     (ending : Ending) (before after : Option (List ℕ)) : Type 0 where
   pub config : Config
   pub states : List LaneState
   pub posts : List (Post (Wrapped C (Text W)))
-  pub ready : AreReady opened are_kept texts zone config states posts
+  pub ready : AreReady opened are_kept choices texts zone config states posts
   pub middle : Option (List ℕ)
   pub report : WritesResumedRun inner account offered items can_fail is_open config zone tries states posts given_back known ending before middle
   pub lines : AddsLines items config states given_back middle after
@@ -204,12 +205,12 @@ pub record IsGoneOn {C W V : Type 0} (inner : C → Account) (account : Wrapped 
 -- the same of a run with a log
 pub record IsLoggedOn {C W V : Type 0} (inner : C → Account) (account : Wrapped C (Text W) → Account)
     (offered : Wrapped C (Text W) → List Offer → Wrapped C (Text W) → Type 0) (items : V → List (Wrapped C (Text W))) (opened : C → Opened)
-    (are_kept : Config → List LaneState → Type 0) (texts : List (List ℕ)) (can_fail is_open : Bool) (zone : Zone) (tries : ℕ) (given_back : List V) (known : Option (List ℕ))
+    (are_kept : Config → List LaneState → Type 0) (choices : Choices) (texts : List (List ℕ)) (can_fail is_open : Bool) (zone : Zone) (tries : ℕ) (given_back : List V) (known : Option (List ℕ))
     (ending : Ending) (before after : Option (List ℕ)) : Type 0 where
   pub config : Config
   pub states : List LaneState
   pub posts : List (Post (Wrapped C (Text W)))
-  pub ready : AreReady opened are_kept texts zone config states posts
+  pub ready : AreReady opened are_kept choices texts zone config states posts
   pub middle : Option (List ℕ)
   pub ends : WritesResumedEnds inner account offered items can_fail is_open config zone tries states posts given_back known ending before middle
   pub lines : AddsLines items config states given_back middle after

@@ -80,7 +80,7 @@ pub(crate) fn ready_run<'m, 'a>(
 ) -> Result<Ready, ResumeFault<'a>>
     ensures right { let texts = map (λ text. text.now)
         (unwrap_or (option_map (λ given. given.now) words.entry.channels) [])
-        in IfOk result (λ ready. AreOpened texts (arc_value ready.config) ready.lanes.items
+        in IfOk result (λ ready. AreOpened settings.entry.run.choices texts (arc_value ready.config) ready.lanes.items
         (map opened (numbered_from 0 ready.opened.items))) }
     ensures each { IfOk result (λ ready. length ready.opened.items ≡ length ready.lanes.items) }
     ensures unused { IfOk result (λ ready. All (λ channel. channel.kept.taken ≡ []) ready.opened.items) }
@@ -102,7 +102,7 @@ pub(crate) fn ready_run<'m, 'a>(
     let Ok(file) = File::open(rt, words.objects) else {
         return Err(ResumeFault::Run(RunFault::Command(CommandFault::Unreadable)));
     };
-    let (config, lanes) = checked(alloc, AnyReader::new(file), &read)?;
+    let (config, lanes) = checked(alloc, settings.run.choices, AnyReader::new(file), &read)?;
     let config = Arc::new(alloc, config)?;
     let kept = kept_of(rt, &config, zone, settings.state, settings.run.quiet)?;
     unchanged(rt, &config, zone, settings.state, &kept)?;

@@ -66,7 +66,7 @@ pub fn do_resumed_run<'m, 'a, T: Threads + Wait + Clock + Sync, R: Input + Drop,
         ⟦<FolderJournals as Journals<FileJournal>>⟧.knows ⟦<FolderJournals as Journals<FileJournal>>⟧.begins
         ⟦<FolderJournals as Journals<FileJournal>>⟧.replaced ⟦<FileJournal as Journal>⟧.wrote
         settings.entry.state.drops_doubt settings.entry.state.from_now c zone.now states)
-        texts R.can_fail (is_none settings.entry.run.ahead) zone.now settings.entry.run.settings.tries done.channels.items
+        settings.entry.run.choices texts R.can_fail (is_none settings.entry.run.ahead) zone.now settings.entry.run.settings.tries done.channels.items
         (R.remaining feed) done.ending (W.contents writer.old) (W.contents writer.new)) }
     // What it fails with, and that the earlier checks went well.
     ensures fault { let texts = map (λ text. text.now)
@@ -102,7 +102,7 @@ pub fn do_logged_resumed_run<'m, 'a, T: Threads + Wait + Clock + Sync, R: Input 
         ⟦<FolderJournals as Journals<FileJournal>>⟧.knows ⟦<FolderJournals as Journals<FileJournal>>⟧.begins
         ⟦<FolderJournals as Journals<FileJournal>>⟧.replaced ⟦<FileJournal as Journal>⟧.wrote
         settings.entry.state.drops_doubt settings.entry.state.from_now c zone.now states)
-        texts R.can_fail (is_none settings.entry.run.ahead) zone.now settings.entry.run.settings.tries done.channels.items
+        settings.entry.run.choices texts R.can_fail (is_none settings.entry.run.ahead) zone.now settings.entry.run.settings.tries done.channels.items
         (R.remaining feed) done.ending (W.contents writer.old) (W.contents writer.new)) }
     ensures fault { let texts = map (λ text. text.now)
         (unwrap_or (option_map (λ given. given.now) words.entry.channels) [])

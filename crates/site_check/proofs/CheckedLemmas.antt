@@ -38,7 +38,7 @@ read-same r blocks others is gives = ap blocks_in (subst (λ given. Gives given 
 
 -- what is found of blocks that were read
 pub blocks-refused : (form : Form) (text : List ℕ) (line : ℕ) (fault : BlockFault) (r : Result (List Block) ReadFault) (blocks : List Block) (told : List LoadFault) (warnings : ℕ) → r ≡ Ok blocks
-    → ((others : List Block) → IsObjectText text others → Gives r (Ok others)) → IsObjectText text blocks → IsTextFault text (load.Block line fault)
+    → ((others : List Block) → IsObjectText text others → Gives r (Ok others)) → IsObjectText text blocks → IsTextFault false text (load.Block line fault)
     → (IsRefusal blocks line fault → AreTold blocks (load.Block line fault) told) → IsOfFaulty form blocks warnings → AreRefused form text (load.Block line fault) told warnings
 blocks-refused form text line fault r blocks told warnings is only here (others, whole, refusal) told_if warned = record {
   blocks = blocks;
@@ -61,11 +61,11 @@ pub memory-lies : (given fault : LoadFault) → given ≡ fault → is_memory fa
 memory-lies given fault is other memory = false≢true (sym other ∙ ap is_memory (sym is ∙ memory))
 
 -- a fault of the text is another than that memory ran out
-pub text-fault : (text : List ℕ) (fault : LoadFault) → is_memory fault ≡ false → (fault ≡ load.NoMemory) ⊎ IsTextFault text fault → IsTextFault text fault
+pub text-fault : (text : List ℕ) (fault : LoadFault) → is_memory fault ≡ false → (fault ≡ load.NoMemory) ⊎ IsTextFault false text fault → IsTextFault false text fault
 text-fault text fault other (inl memory) = absurd (false≢true (sym other ∙ ap is_memory memory))
 text-fault text fault other (inr is) = is
 
-pub large-checked : (form : Form) (text : List ℕ) (told : List LoadFault) (warnings : ℕ) → (load.TooLarge ≡ load.NoMemory) ⊎ IsTextFault text load.TooLarge → told ≡ load.TooLarge ∷ [] → warnings ≡ 0
+pub large-checked : (form : Form) (text : List ℕ) (told : List LoadFault) (warnings : ℕ) → (load.TooLarge ≡ load.NoMemory) ⊎ IsTextFault false text load.TooLarge → told ≡ load.TooLarge ∷ [] → warnings ≡ 0
     → IsChecked form text told warnings
 large-checked form text told warnings answered one none = inr (record {
   first = load.TooLarge;
@@ -74,7 +74,7 @@ large-checked form text told warnings answered one none = inr (record {
   all = (one, none);
 })
 
-pub line-checked : (form : Form) (text : List ℕ) (line : ℕ) (fault : LineFault) (told : List LoadFault) (warnings : ℕ) → (load.Line line fault ≡ load.NoMemory) ⊎ IsTextFault text (load.Line line fault)
+pub line-checked : (form : Form) (text : List ℕ) (line : ℕ) (fault : LineFault) (told : List LoadFault) (warnings : ℕ) → (load.Line line fault ≡ load.NoMemory) ⊎ IsTextFault false text (load.Line line fault)
     → told ≡ load.Line line fault ∷ [] → warnings ≡ 0 → IsChecked form text told warnings
 line-checked form text line fault told warnings answered one none = inr (record {
   first = load.Line line fault;
@@ -83,7 +83,7 @@ line-checked form text line fault told warnings answered one none = inr (record 
   all = (one, none);
 })
 
-pub block-checked : (form : Form) (text : List ℕ) (line : ℕ) (fault : BlockFault) (told : List LoadFault) (warnings : ℕ) → (load.Block line fault ≡ load.NoMemory) ⊎ IsTextFault text (load.Block line fault)
+pub block-checked : (form : Form) (text : List ℕ) (line : ℕ) (fault : BlockFault) (told : List LoadFault) (warnings : ℕ) → (load.Block line fault ≡ load.NoMemory) ⊎ IsTextFault false text (load.Block line fault)
     → AreRefused form text (load.Block line fault) told warnings → IsChecked form text told warnings
 block-checked form text line fault told warnings answered refused = inr (record {
   first = load.Block line fault;
@@ -92,7 +92,7 @@ block-checked form text line fault told warnings answered refused = inr (record 
   all = refused;
 })
 
-pub sound-checked : (form : Form) (text : List ℕ) (config : Config) (told : List LoadFault) (warnings : ℕ) → IsTextOf config text → told ≡ [] → IsOfText form text config warnings
+pub sound-checked : (form : Form) (text : List ℕ) (config : Config) (told : List LoadFault) (warnings : ℕ) → IsTextOf false config text → told ≡ [] → IsOfText form text config warnings
     → IsChecked form text told warnings
 sound-checked form text config told warnings gives none warned = inl (record { config = config; gives = gives; none = none; warned = warned })
 

@@ -1,5 +1,5 @@
 -- What a check of object text finds.
-use Rattle.std.specs.Prelude.{◌≡◌, ℕ, ◌⊎◌, List, [], ◌∷◌, ◌++◌, Some, slice_get}
+use Rattle.std.specs.Prelude.{◌≡◌, ℕ, ◌⊎◌, false, List, [], ◌∷◌, ◌++◌, Some, slice_get}
 use Rattle.due_model.specs.declared.config.Config.{Config}
 use Rattle.faults_told.specs.Forms.{place_text}
 use Rattle.faults_told.specs.declared.located.Source.{Source}
@@ -17,7 +17,7 @@ use Rattle.site_check.specs.declared.options.Form.{Form}
 -- a text with a configuration: no fault, and its warnings
 pub record IsSound (form : Form) (text : List ℕ) (told : List LoadFault) (warnings : ℕ) : Type 0 where
   pub config : Config
-  pub gives : IsTextOf config text
+  pub gives : IsTextOf false config text
   pub none : told ≡ []
   pub warned : IsOfText form text config warnings
 
@@ -39,7 +39,7 @@ IsToldOf form text first told warnings = (told ≡ first ∷ []) × (warnings �
 -- a text with a fault: the first that is told is the one that loading answers
 pub record IsFaulty (form : Form) (text : List ℕ) (told : List LoadFault) (warnings : ℕ) : Type 0 where
   pub first : LoadFault
-  pub answered : IsTextFault text first
+  pub answered : IsTextFault false text first
   pub begins : slice_get told 0 ≡ Some first
   pub all : IsToldOf form text first told warnings
 

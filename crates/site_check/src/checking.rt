@@ -1,6 +1,6 @@
 //! The check of object text: all faults of the first pass that finds any, told one after another, and then the warnings.
 
-ghost use Rattle.std.specs.Prelude.{◌≡◌, ◌<◌, ◌∷◌, [], IfOk};
+ghost use Rattle.std.specs.Prelude.{◌≡◌, ◌<◌, ◌⊎◌, ◌∷◌, [], false, IfErr, IfOk};
 ghost use Rattle.due_model.specs.Accepted.{IsAccepted};
 ghost use Rattle.due_model.specs.declared.config.Config.{Config};
 ghost use Rattle.object_faults.specs.declared.load_fault.LoadFault.TheVariants as load;
@@ -15,7 +15,7 @@ use crate::ends::{push_end, push_some, words_of};
 use crate::lines::{line_at, push_line_fault, push_plain_line_fault};
 pub use crate::options::Form;
 use crate::warned_forms::{push_of_blocks, push_of_text};
-use due_model::config::Config;
+use due_model::config::{Choices, Config};
 use faults_told::forms::push_json;
 use faults_told::located::Source;
 use faults_told::telling::Telling;
@@ -175,7 +175,7 @@ fn refused_text(
     line: u64,
     fault: BlockFault,
 ) -> Result<Checked, AllocError>
-    requires { IsTextFault text.now.items (load.Block line fault) }
+    requires { IsTextFault false text.now.items (load.Block line fault) }
     ensures some { IfOk result (λ checked. 0 < checked.faults) }
     ensures refused { IfOk result (λ checked. AreRefused form.entry text.now.items (load.Block line fault)
         checked.told.items checked.warnings) }
@@ -259,22 +259,33 @@ pub fn told(
     }
 }
 
+/// The configuration of a text, or its fault, by this project's rules.
+fn loaded(alloc: Global, text: Vec<u8>) -> Result<Config, LoadFault>
+    ensures config { IfOk result (λ config. IsTextOf false config text.items) }
+    ensures accepted { IfOk result (λ config. IsAccepted config) }
+    ensures fault { IfErr result (λ fault. (fault ≡ load.NoMemory) ⊎ IsTextFault false text.items fault) }
+    ensures only { (config : Config) → IsTextOf false config text.items
+        → IfErr result (λ fault. fault ≡ load.NoMemory) }
+{
+    load(alloc, Choices::own(), text)
+}
+
 /// Checks object text: tells all faults of the first pass that finds any, or that there is none, and then the warnings: of a text
 /// with a fault those of its blocks alone. Of lines that aren't blocks, of loops of periods and of dependencies, and of limits,
 /// the first alone is told.
 pub fn check(alloc: Global, form: Form<'_, '_>, text: Vec<u8>) -> Result<Checked, AllocError>
     // A text of which no fault is told has a configuration.
     ensures sound { IfOk result (λ checked. checked.faults ≡ 0
-        → (config : Config) × IsTextOf config text.items) }
+        → (config : Config) × IsTextOf false config text.items) }
     // Of a text that has one none is told.
-    ensures faulty { (config : Config) → IsTextOf config text.items
+    ensures faulty { (config : Config) → IsTextOf false config text.items
         → IfOk result (λ checked. checked.faults ≡ 0) }
     // All faults of the pass that finds the first are told, the one that loading answers before all others, and the warnings
     // are counted, less those that are left out.
     ensures all { IfOk result (λ checked. IsChecked form.entry text.items checked.told.items checked.warnings) }
 {
     let kept = Vec::from_slice(alloc, text.as_slice())?;
-    match load(alloc, text) {
+    match loaded(alloc, text) {
         Ok(config) => {
             let free = sound(alloc, form, kept.as_slice(), &config)?;
             Ok(free)

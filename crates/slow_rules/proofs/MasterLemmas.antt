@@ -9,7 +9,7 @@ use Rattle.due_model.specs.declared.state.State.{State}
 use Rattle.due_model.specs.declared.state.State.TheVariants.{Pending}
 use Rattle.due_model.specs.declared.zone.Zone.{Zone}
 use Rattle.due_model.specs.Accepted.{DependencyFits, IsAccepted}
-use Rattle.due_model.specs.Dependencies.{dependency_fails, entry_fails, has_state}
+use Rattle.due_model.specs.Dependencies.{dependency_fails, entry_fails, fails_at}
 use Rattle.due_model.specs.Periods.{in_period}
 use Rattle.due_model.specs.Readings.{hard, moment}
 use Rattle.slow_rules.specs.Rounds.{state_of}
@@ -23,7 +23,7 @@ module _ (c : Config) (zone : Zone) (f g : ℕ → State) (t : ℕ) (same : (o :
   entries_agree zero o fit = refl
   entries_agree (suc depth) o fit =
       any_agree (DependencyFits c) _ _ (λ e fits.
-      ap₂ (λ (s : State) (b : Bool). e.dependent.0 == o && in_period c zone e.period t && (has_state e.states s || e.inherits && b))
+      ap₂ (λ (s : State) (b : Bool). e.dependent.0 == o && in_period c zone e.period t && (fails_at c.choices.dep_pending e.states s || e.inherits && b))
       (same e.master.0 fits.master) (entries_agree depth e.master.0 fit)) c.dependencies fit
 
   -- whether one fails, by states that agree there

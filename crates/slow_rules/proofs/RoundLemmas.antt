@@ -9,7 +9,7 @@ use Rattle.due_model.specs.declared.config.Period.{Period}
 use Rattle.due_model.specs.declared.config.PeriodId.{PeriodId}
 use Rattle.due_model.specs.declared.state.State.{State}
 use Rattle.due_model.specs.declared.zone.Zone.{Zone}
-use Rattle.due_model.specs.Dependencies.{entry_fails, has_state}
+use Rattle.due_model.specs.Dependencies.{entry_fails, fails_at}
 use Rattle.due_model.specs.Local.{Local}
 use Rattle.due_model.specs.Periods.{holds, in_period}
 use Rattle.slow_rules.specs.Flags.{flag_at}
@@ -48,18 +48,18 @@ open_at c zone t flags are (Some period) = are period.0
 
 module _ (c : Config) (zone : Zone) (states : List State) (t : ℕ) where
   entry_alike : (depth : ℕ) (periods before : List Bool) → ArePeriodsAt c zone t periods → AreObjectFlags depth c zone (state_of states) t before → (o : ℕ) (entry : Dependency)
-      → (entry.dependent.0 == o && entry_flag periods states before entry)
+      → (entry.dependent.0 == o && entry_flag c.choices.dep_pending periods states before entry)
       ≡ (entry.dependent.0 == o && in_period c zone entry.period t
-      && (has_state entry.states (state_of states entry.master.0) || entry.inherits && entry_fails depth c zone (state_of states) t entry.master.0))
+      && (fails_at c.choices.dep_pending entry.states (state_of states entry.master.0) || entry.inherits && entry_fails depth c zone (state_of states) t entry.master.0))
   entry_alike depth periods before are_open so_far o entry =
-      ap (λ (b : Bool). entry.dependent.0 == o && (b && (has_state entry.states (state_of states entry.master.0) || entry.inherits && flag_at before entry.master.0)))
+      ap (λ (b : Bool). entry.dependent.0 == o && (b && (fails_at c.choices.dep_pending entry.states (state_of states entry.master.0) || entry.inherits && flag_at before entry.master.0)))
       (open_at c zone t periods are_open entry.period)
-      ∙ ap (λ (b : Bool). entry.dependent.0 == o && (in_period c zone entry.period t && (has_state entry.states (state_of states entry.master.0) || entry.inherits && b)))
+      ∙ ap (λ (b : Bool). entry.dependent.0 == o && (in_period c zone entry.period t && (fails_at c.choices.dep_pending entry.states (state_of states entry.master.0) || entry.inherits && b)))
       (so_far entry.master.0)
       ∙ sym (and_assoc (entry.dependent.0 == o) (in_period c zone entry.period t)
-      (has_state entry.states (state_of states entry.master.0) || entry.inherits && entry_fails depth c zone (state_of states) t entry.master.0))
+      (fails_at c.choices.dep_pending entry.states (state_of states entry.master.0) || entry.inherits && entry_fails depth c zone (state_of states) t entry.master.0))
 
-  pub objects_more : (depth : ℕ) (periods items before flags : List Bool) → ((o : ℕ) → flag_at flags o ≡ object_flag periods states before c.dependencies o) → ArePeriodsAt c zone t periods
+  pub objects_more : (depth : ℕ) (periods items before flags : List Bool) → ((o : ℕ) → flag_at flags o ≡ object_flag c.choices.dep_pending periods states before c.dependencies o) → ArePeriodsAt c zone t periods
       → before ≡ items → AreObjectFlags depth c zone (state_of states) t items → AreObjectFlags (depth + 1) c zone (state_of states) t flags
   objects_more depth periods items before flags are are_open seen so_far =
       let so_far_seen : (o : ℕ) → flag_at before o ≡ entry_fails depth c zone (state_of states) t o = λ o. ap (λ (xs : List Bool). flag_at xs o) seen ∙ so_far o in

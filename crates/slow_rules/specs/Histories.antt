@@ -12,7 +12,7 @@ longest_gap = 60 * 2 ^ 32
 -- the moment and the gap of an outcome are within their limits
 abbrev pub IsInRange : Outcome → Type 0
 IsInRange Nothing = Unit {0}
-IsInRange (Sent k state number moment gap) = (moment ≤ last_moment) × (gap ≤ longest_gap)
+IsInRange (Sent k state number moment gap reach) = (moment ≤ last_moment) × (gap ≤ longest_gap)
 IsInRange (Suppressed k state number moment why) = moment ≤ last_moment
 
 -- the moment and the gap of a last notice are within their limits

@@ -10,7 +10,7 @@ use Rattle.due_model.specs.declared.config.PeriodId.{PeriodId}
 use Rattle.due_model.specs.declared.state.State.{State}
 use Rattle.due_model.specs.declared.state.State.TheVariants as state
 use Rattle.due_model.specs.declared.zone.Zone.{Zone}
-use Rattle.due_model.specs.Dependencies.{entry_fails, has_state}
+use Rattle.due_model.specs.Dependencies.{entry_fails, fails_at}
 use Rattle.due_model.specs.Local.{Local, local}
 use Rattle.due_model.specs.Days.{class_of, names_day}
 use Rattle.due_model.specs.Periods.{holds, in_range, ranges_at}
@@ -54,18 +54,19 @@ abbrev pub state_of : List State → ℕ → State
 state_of states o = slice_index_or states o state.Pending
 
 -- an entry fails, where these flags say which periods hold, and those which objects fail
-abbrev pub entry_flag : (periods : List Bool) → List State → (before : List Bool) → Dependency
-    → Bool
-entry_flag periods states before entry =
+abbrev pub entry_flag : (daemons : Bool) → (periods : List Bool) → List State → (before : List Bool)
+    → Dependency → Bool
+entry_flag daemons periods states before entry =
     is_open periods entry.period
-    && (has_state entry.states (state_of states entry.master.0)
+    && (fails_at daemons entry.states (state_of states entry.master.0)
     || entry.inherits && flag_at before entry.master.0)
 
 -- an object's flag of a round, of these entries
-abbrev pub object_flag : (periods : List Bool) → List State → (before : List Bool) → List Dependency
-    → ℕ → Bool
-object_flag periods states before entries o =
-    list_any (λ entry. entry.dependent.0 == o && entry_flag periods states before entry) entries
+abbrev pub object_flag : (daemons : Bool) → (periods : List Bool) → List State → (before : List Bool)
+    → List Dependency → ℕ → Bool
+object_flag daemons periods states before entries o =
+    list_any (λ entry. entry.dependent.0 == o && entry_flag daemons periods states before entry)
+    entries
 
 -- the flags say for which objects an entry fails, where a chain has at most `depth` entries
 abbrev pub AreObjectFlags : (depth : ℕ) → Config → Zone → (ℕ → State) → (t : ℕ) → List Bool → Type 0

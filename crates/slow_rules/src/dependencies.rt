@@ -69,11 +69,19 @@ fn round(
 ) -> Result<Vec<bool>, AllocError>
     requires { IsAccepted config.now }
     ensures { IfOk result (λ flags. (o : ℕ) → flag_at flags.items o
-        ≡ object_flag periods.now states.now before.now config.now.dependencies o) }
+        ≡ object_flag config.now.choices.dep_pending periods.now states.now before.now
+        config.now.dependencies o) }
 {
     let mut flags = vec![in alloc; false; config.objects.len()]?;
     let entries = config.dependencies.as_slice();
-    add_entries(flags.as_mut_slice(), entries, periods, states, before);
+    add_entries(
+        flags.as_mut_slice(),
+        entries,
+        config.choices.dep_pending,
+        periods,
+        states,
+        before,
+    );
     Ok(flags)
 }
 
@@ -81,27 +89,37 @@ fn round(
 fn add_entries(
     flags: &mut [bool],
     entries: &[Dependency],
+    daemons: bool,
     periods: &[bool],
     states: &[State],
     before: &[bool],
 )
     requires { All (λ entry. entry.dependent.0 < length flags.old) entries.now }
     ensures { (o : ℕ) → flag_at flags.old o ≡ false
-        → flag_at flags.new o ≡ object_flag periods.now states.now before.now entries.now o }
+        → flag_at flags.new o
+        ≡ object_flag daemons periods.now states.now before.now entries.now o }
 {
     for entry in entries {
-        let fails = entry_flag(entry, periods, states, before);
+        let fails = entry_flag(entry, daemons, periods, states, before);
         or_into(flags, entry.dependent.0, fails);
     }
 }
 
 /// Whether an entry fails: its period holds, and the state of its master is one of its states, or it inherits and
-/// an entry of its master failed in the round before.
-fn entry_flag(entry: &Dependency, periods: &[bool], states: &[State], before: &[bool]) -> bool
-    ensures { result ≡ entry_flag periods.now states.now before.now entry.now }
+/// an entry of its master failed in the round before. `daemons` is whether a pending master counts as one that is UP or OK.
+fn entry_flag(
+    entry: &Dependency,
+    daemons: bool,
+    periods: &[bool],
+    states: &[State],
+    before: &[bool],
+) -> bool
+    ensures { result ≡ entry_flag daemons periods.now states.now before.now entry.now }
 {
     is_open(periods, entry.period)
-        && (entry.states.contains(state_of(states, entry.master))
+        && (entry
+            .states
+            .fails_at(daemons, state_of(states, entry.master))
             || entry.inherits && flag_at(before, entry.master.0))
 }
 

@@ -6,8 +6,8 @@ ghost use Rattle.due_model.specs.Limits.{last_moment};
 ghost use Rattle.due_model.specs.declared.notice.Outcome.{Outcome};
 ghost use Rattle.due_model.specs.Histories.{before, of_problem, notice_of, notices_sent};
 ghost use Rattle.due_model.specs.Histories.{last_notice};
-ghost use Rattle.due_model.specs.Histories.{after_last, retry_after, ready};
-ghost use Rattle.slow_rules.specs.Histories.{IsInRange, IsLastInRange};
+ghost use Rattle.due_model.specs.Histories.{after_last, after_notice, retry_after, ready, told_letters};
+ghost use Rattle.slow_rules.specs.Histories.{IsInRange, IsLastInRange, longest_gap};
 ghost use Rattle.slow_rules.specs.Retries.{IsRetryInRange, retry_moment};
 
 use crate::periods::next_in;
@@ -15,7 +15,8 @@ use crate::readings::{begins, hard};
 use crate::subject::Subject;
 use due_model::config::ObjectId;
 use due_model::event::Event;
-use due_model::notice::{Filter, Kind, Outcome};
+use due_model::notice::{Filter, Kind, Outcome, Reach};
+use due_model::options::OptionLetters;
 use due_model::rules::{Last, next_notice};
 use due_model::state::State;
 use std::alloc::{AllocError, Global};
@@ -43,7 +44,7 @@ pub(crate) fn of_problem<'a>(
     &history[start..]
 }
 
-/// The problem notice that this outcome is, if it is one.
+/// The problem notice that this outcome is, if it is one that counts.
 pub(crate) fn notice_of(outcome: Outcome) -> Option<Last>
     ensures value { result ≡ notice_of outcome }
     ensures in_range { IsInRange outcome → IfSome result IsLastInRange }
@@ -54,8 +55,15 @@ pub(crate) fn notice_of(outcome: Outcome) -> Option<Last>
             state,
             moment,
             gap,
+            reach,
             ..
-        } => { Some(Last { state, moment, gap }) }
+        } => {
+            if reach.heard {
+                Some(Last { state, moment, gap })
+            } else {
+                None
+            }
+        }
         _ => None,
     }
 }
@@ -84,6 +92,28 @@ pub(crate) fn last_notice(history: &[Outcome]) -> Option<Last>
         last = notice_of(*outcome).or(last);
     }
     last
+}
+
+/// The letters of the states that these notices and one more outcome told.
+fn with_told(outcome: Outcome, told: OptionLetters) -> OptionLetters
+    ensures { (history : List Outcome) → told ≡ told_letters history
+        → result ≡ told_letters (outcome ∷ history) }
+{
+    match notice_of(outcome) {
+        Some(last) => told.with(last.state.letter()),
+        None => told,
+    }
+}
+
+/// The letters of the states of which a problem notice went out.
+pub(crate) fn told_letters(history: &[Outcome]) -> OptionLetters
+    ensures { result ≡ told_letters (reverse history.now) }
+{
+    let mut told = OptionLetters::NONE;
+    for outcome in history {
+        told = with_told(*outcome, told);
+    }
+    told
 }
 
 /// When the last notice may be followed by one of the same state, in seconds since the epoch.
@@ -136,9 +166,25 @@ fn retry_after(
         | Filter::Options
         | Filter::NoProblem
         | Filter::Dependency
+        | Filter::HostDown
         | Filter::ContactDisabled
         | Filter::ContactOptions
-        | Filter::ContactPeriod => Retry::At(Some(moment + 60)),
+        | Filter::ContactPeriod
+        | Filter::ContactNotTold => Retry::At(Some(moment + 60)),
+    }
+}
+
+/// When a problem is attempted again after a notice: when the next of the same state may go out, or a minute later where
+/// it doesn't count.
+fn after_notice(moment: u64, gap: u64, reach: Reach) -> Option<u64>
+    requires moment { moment ≤ last_moment }
+    requires gap { gap ≤ longest_gap }
+    ensures { result ≡ after_notice moment gap reach }
+{
+    if reach.heard {
+        next_notice(moment, gap)
+    } else {
+        Some(moment + 60)
     }
 }
 
@@ -168,8 +214,9 @@ fn retry_with(
             kind: Kind::Problem,
             moment,
             gap,
+            reach,
             ..
-        } => Retry::At(next_notice(moment, gap)),
+        } => Retry::At(after_notice(moment, gap, reach)),
         Outcome::Suppressed {
             kind: Kind::Problem,
             moment,

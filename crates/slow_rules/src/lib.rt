@@ -4,6 +4,7 @@
 //! one's. Faster bodies are compared with it.
 #![tactic(auto)]
 
+mod attempts;
 pub mod dependencies;
 mod escalations;
 mod filters;
@@ -14,5 +15,8 @@ mod outcomes;
 pub mod periods;
 mod ranges;
 mod readings;
+mod receivers;
 pub mod slow;
 mod subject;
+mod views;
+mod waits;

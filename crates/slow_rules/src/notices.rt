@@ -1,19 +1,19 @@
 //! The notices and the suppressions that an outcome adds.
 
-ghost use Rattle.std.specs.Prelude.{◌≡◌, ◌≤◌, ◌++◌, [], IfOk, OnOk, length, map, flat_map};
+ghost use Rattle.std.specs.Prelude.{◌≡◌, ◌≤◌, ◌++◌, [], IfOk, OnOk, Some, map, flat_map};
 ghost use Rattle.due_model.specs.Accepted.{IsAccepted};
-ghost use Rattle.due_model.specs.Due.{receivers, rights_for, notice_to, refusal_of, notices};
-ghost use Rattle.due_model.specs.Due.{suppressions};
-ghost use Rattle.due_model.specs.Escalations.{contacts_with, has_contact, reach};
-ghost use Rattle.due_model.specs.Limits.{last_moment, max_contacts};
+ghost use Rattle.due_model.specs.Due.{notice_to, refusal_of, notices, suppressions};
+ghost use Rattle.due_model.specs.Receivers.{receivers};
+ghost use Rattle.due_model.specs.Limits.{last_moment};
 ghost use Rattle.slow_rules.specs.Histories.{IsInRange};
 ghost use Rattle.slow_rules.specs.Notices.{number_of_contact, notice_in, suppression_in};
 
-use crate::escalations::{Numbered, named};
 use crate::filters::contact_failing;
+use crate::receivers::{receivers, rights_for};
 use crate::subject::Subject;
-use due_model::config::{Config, Contact, ContactId, LaneId, Object, ObjectId, Rights};
-use due_model::notice::{Filter, Kind, Notice, Outcome, Suppression};
+use due_model::config::{ContactId, LaneId, ObjectId};
+use due_model::notice::{Filter, Kind, Notice, Outcome, Reach, Suppression};
+use due_model::options::OptionLetters;
 use due_model::rules::Attempt;
 use due_model::state::State;
 use std::alloc::{AllocError, Global};
@@ -52,91 +52,6 @@ impl Answers {
     }
 }
 
-/// What a contact is notified of, for the kind of this object.
-fn rights_for<'a>(settings: &Object, contact: &'a Contact) -> &'a Rights
-    ensures { result.now ≡ rights_for settings.now contact.now }
-{
-    if settings.host.is_some() {
-        &contact.services
-    } else {
-        &contact.hosts
-    }
-}
-
-/// Whether a contact is among these.
-fn is_among(named: &[ContactId], contact: ContactId) -> bool
-    ensures { result ≡ has_contact named.now contact.0 }
-{
-    named.iter().any(|other| other.0 == contact.0)
-}
-
-/// The contacts of a list, each once, in number order.
-fn contacts_with(
-    alloc: Global,
-    config: &Config,
-    named: &[ContactId],
-) -> Result<Vec<ContactId>, AllocError>
-    requires { length config.now.contacts ≤ max_contacts }
-    ensures { IfOk result
-        (λ v. map number_of_contact v.items ≡ contacts_with config.now (has_contact named.now)) }
-{
-    let mut found = Vec::new(alloc);
-    for number in 0..config.contacts.len() {
-        let contact = ContactId(number as u16);
-        if is_among(named, contact) {
-            found.push(contact)?;
-        }
-    }
-    Ok(found)
-}
-
-/// The contacts that escalations name for a notification, or the object's own where none matches, each once, in
-/// number order.
-fn reached(
-    alloc: Global,
-    subject: &Subject<'_>,
-    notification: Numbered,
-) -> Result<Vec<ContactId>, AllocError>
-    requires accepted { IsAccepted subject.now.config.now }
-    requires moment { notification.moment ≤ last_moment }
-    ensures { IfOk result (λ v. map number_of_contact v.items
-        ≡ reach subject.now.config.now subject.now.zone.now subject.now.id.0 subject.now.object.now
-        notification.number notification.letter notification.moment) }
-{
-    let named = named(alloc, subject, notification)?;
-    contacts_with(alloc, subject.config, named.as_slice())
-}
-
-/// The contacts that a notice goes to, each once, in number order: a recovery goes to those that the last problem
-/// notice's number reaches, and flapping and downtimes are no matter of escalations.
-fn receivers(
-    alloc: Global,
-    subject: &Subject<'_>,
-    attempt: Attempt,
-    number: u64,
-) -> Result<Vec<ContactId>, AllocError>
-    requires accepted { IsAccepted subject.now.config.now }
-    requires moment { attempt.moment ≤ last_moment }
-    ensures { IfOk result (λ v. map number_of_contact v.items
-        ≡ receivers subject.now.config.now subject.now.zone.now subject.now.id.0
-        subject.now.object.now attempt
-        number) }
-{
-    let letter = attempt.kind.letter(attempt.state);
-    let moment = attempt.moment;
-    let number = match attempt.kind {
-        Kind::Problem => number,
-        Kind::Recovery => number.saturating_sub(1),
-        _ => return contacts_with(alloc, subject.config, subject.object.contacts.as_slice()),
-    };
-    let notification = Numbered {
-        number,
-        letter,
-        moment,
-    };
-    reached(alloc, subject, notification)
-}
-
 /// A notification that goes out: where it stands, and what it says.
 #[derive(Clone, Copy)]
 struct Message {
@@ -144,14 +59,27 @@ struct Message {
     event: u64,
     /// The number in the problem, from 1; 0 for the kinds that have none.
     number: u64,
+    /// The letters of the states told in the problem, where only who takes one of them is notified.
+    told: Option<OptionLetters>,
+    /// How many notices of the problem went out before it.
+    standing: u64,
     attempt: Attempt,
 }
 
 /// A notification of these parts.
-fn message_of(event: u64, number: u64, kind: Kind, state: State, moment: u64) -> Message
+fn message_of(
+    event: u64,
+    number: u64,
+    kind: Kind,
+    state: State,
+    moment: u64,
+    reach: Reach,
+) -> Message
     ensures { result ≡ record {
       event = event;
       number = number;
+      told = reach.told;
+      standing = reach.standing;
       attempt = record { kind = kind; state = state; moment = moment };
     } }
 {
@@ -163,6 +91,8 @@ fn message_of(event: u64, number: u64, kind: Kind, state: State, moment: u64) ->
     Message {
         event,
         number,
+        told: reach.told,
+        standing: reach.standing,
         attempt,
     }
 }
@@ -193,8 +123,8 @@ impl Message {
         }
     }
 
-    /// Its suppression by a filter: of a contact, or of the object where there is none.
-    fn stopped(self, object: ObjectId, filter: Filter, contact: Option<ContactId>) -> Suppression
+    /// Its suppression by a filter of this contact.
+    fn stopped(self, object: ObjectId, filter: Filter, contact: ContactId) -> Suppression
         ensures { result ≡ record {
           event = self.event;
           moment = self.attempt.moment;
@@ -203,7 +133,7 @@ impl Message {
           state = self.attempt.state;
           number = self.number;
           filter = filter;
-          contact = contact;
+          contact = Some contact;
         } }
     {
         Suppression {
@@ -214,7 +144,7 @@ impl Message {
             state: self.attempt.state,
             number: self.number,
             filter,
-            contact,
+            contact: Some(contact),
         }
     }
 }
@@ -232,18 +162,18 @@ fn answer_of(
     ensures due { IfOk result (λ answer. notice_in answer
         ≡ notice_to subject.now.config.now subject.now.zone.now subject.now.id.0
         subject.now.object.now lane.0
-        message.event message.number message.attempt contact.0) }
+        message.event message.number message.attempt message.told contact.0) }
     ensures suppressed { IfOk result (λ answer. suppression_in answer
         ≡ refusal_of subject.now.config.now subject.now.zone.now subject.now.id.0
         subject.now.object.now
-        message.event message.number message.attempt contact.0) }
+        message.event message.number message.attempt message.told contact.0) }
 {
     let Some(receiver) = subject.config.contacts.as_slice().get(contact.0 as usize) else {
         return Ok(Answer::Nothing);
     };
     let rights = rights_for(subject.object, receiver);
-    match contact_failing(alloc, subject, rights, message.attempt)? {
-        Some(filter) => Ok(Answer::Suppressed(message.stopped(subject.id, filter, Some(contact)))),
+    match contact_failing(alloc, subject, rights, message.attempt, message.told)? {
+        Some(filter) => Ok(Answer::Suppressed(message.stopped(subject.id, filter, contact))),
         None if !rights.uses_lane(lane) => Ok(Answer::Nothing),
         None => Ok(Answer::Due(message.notice(subject.id, contact, lane))),
     }
@@ -261,11 +191,11 @@ fn add_each(
     requires moment { message.attempt.moment ≤ last_moment }
     ensures due { OnOk result (answers.new.due.items ≡ answers.old.due.items
         ++ flat_map (notice_to subject.now.config.now subject.now.zone.now subject.now.id.0
-        subject.now.object.now lane.0 message.event message.number message.attempt)
+        subject.now.object.now lane.0 message.event message.number message.attempt message.told)
         (map number_of_contact receivers.now)) }
     ensures suppressed { OnOk result (answers.new.suppressed.items ≡ answers.old.suppressed.items
         ++ flat_map (refusal_of subject.now.config.now subject.now.zone.now subject.now.id.0
-        subject.now.object.now message.event message.number message.attempt)
+        subject.now.object.now message.event message.number message.attempt message.told)
         (map number_of_contact receivers.now)) }
 {
     for contact in receivers {
@@ -286,16 +216,22 @@ fn add_message(
     requires moment { message.attempt.moment ≤ last_moment }
     ensures due { OnOk result (answers.new.due.items ≡ answers.old.due.items
         ++ flat_map (notice_to subject.now.config.now subject.now.zone.now subject.now.id.0
-        subject.now.object.now lane.0 message.event message.number message.attempt)
+        subject.now.object.now lane.0 message.event message.number message.attempt message.told)
         (receivers subject.now.config.now subject.now.zone.now subject.now.id.0
-        subject.now.object.now message.attempt message.number)) }
+        subject.now.object.now message.attempt message.number message.standing)) }
     ensures suppressed { OnOk result (answers.new.suppressed.items ≡ answers.old.suppressed.items
         ++ flat_map (refusal_of subject.now.config.now subject.now.zone.now subject.now.id.0
-        subject.now.object.now message.event message.number message.attempt)
+        subject.now.object.now message.event message.number message.attempt message.told)
         (receivers subject.now.config.now subject.now.zone.now subject.now.id.0
-        subject.now.object.now message.attempt message.number)) }
+        subject.now.object.now message.attempt message.number message.standing)) }
 {
-    let receivers = receivers(alloc, subject, message.attempt, message.number)?;
+    let receivers = receivers(
+        alloc,
+        subject,
+        message.attempt,
+        message.number,
+        message.standing,
+    )?;
     add_each(alloc, subject, lane, message, receivers.as_slice(), answers)
 }
 
@@ -327,9 +263,10 @@ pub(crate) fn add_answers(
             state,
             number,
             moment,
+            reach,
             ..
         } => {
-            let message = message_of(event, number, kind, state, moment);
+            let message = message_of(event, number, kind, state, moment, reach);
             add_message(alloc, subject, lane, message, answers)
         }
         Outcome::Suppressed {
@@ -339,8 +276,16 @@ pub(crate) fn add_answers(
             moment,
             filter,
         } => {
-            let message = message_of(event, number, kind, state, moment);
-            answers.add(Answer::Suppressed(message.stopped(subject.id, filter, None)))
+            answers.add(Answer::Suppressed(Suppression {
+                event,
+                moment,
+                object: subject.id,
+                kind,
+                state,
+                number,
+                filter,
+                contact: None,
+            }))
         }
     }
 }

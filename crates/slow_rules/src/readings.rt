@@ -1,14 +1,17 @@
 //! What the events so far say, read by going over all of them.
 
 ghost use Rattle.std.specs.Prelude.{◌≡◌, ◌≤◌, ◌<◌, ◌+◌, ◌^◌, ◌&&◌, ◌∷◌};
-ghost use Rattle.std.specs.Prelude.{not, length, reverse};
-ghost use Rattle.due_model.specs.Readings.{moment, program_on, hard, began};
+ghost use Rattle.std.specs.Prelude.{not, length, reverse, if◌then◌else◌};
+ghost use Rattle.due_model.specs.Readings.{moment, program_on, hard, hard_after, switched};
 ghost use Rattle.due_model.specs.Readings.{is_problem_of, is_problem_state};
 ghost use Rattle.due_model.specs.Readings.{depth, depth_after, down, flapping, flapping_after};
-ghost use Rattle.due_model.specs.Acknowledgements.{acked, acknowledgement};
+ghost use Rattle.due_model.specs.Acknowledgements.{acked, acknowledgement, takes_back};
+ghost use Rattle.due_model.specs.Changes.{delayed};
+ghost use Rattle.due_model.specs.Rules.{same_state};
 
-use due_model::config::ObjectId;
+use due_model::config::{Choices, Config, ObjectId};
 use due_model::event::{Event, EventKind};
+use due_model::rules::same_state;
 use due_model::state::State;
 
 /// The greatest stamp of the events, in seconds since the epoch; 0, if there is none.
@@ -141,6 +144,33 @@ pub(crate) fn is_acknowledged_at(object: ObjectId, event: &Event, past: &[Event]
         .is_some()
 }
 
+/// What the last event that switches the object's notifications says; none, where there is none.
+pub(crate) fn switched(object: ObjectId, events: &[Event]) -> Option<bool>
+    ensures { result ≡ switched object.0 (reverse events.now) }
+{
+    let mut own = None;
+    for event in events {
+        own = event.kind.switched_after(object, own);
+    }
+    own
+}
+
+/// The same, an event and those before it counted.
+pub(crate) fn switched_at(object: ObjectId, event: &Event, past: &[Event]) -> Option<bool>
+    ensures { result ≡ switched object.0 (event.now ∷ reverse past.now) }
+{
+    event.kind.switched_after(object, switched(object, past))
+}
+
+/// Whether an event takes back the acknowledgement of the object's problem.
+pub(crate) fn takes_back(object: ObjectId, event: &Event, past: &[Event]) -> bool
+    ensures { result ≡ takes_back object.0 event.now (reverse past.now) }
+{
+    let removal = event.kind.is_removal_of(object);
+    let acked = acknowledgement(object, past).is_some();
+    removal && acked
+}
+
 /// The last hard state of the object after an event and those before it.
 pub(crate) fn hard_at(object: ObjectId, event: &Event, past: &[Event]) -> State
     ensures { result ≡ hard object.0 (event.now ∷ reverse past.now) }
@@ -156,16 +186,36 @@ pub(crate) fn begins(object: ObjectId, event: EventKind, old: State) -> bool
     event.is_problem_of(object) && !old.is_problem()
 }
 
-/// The moment at which the object's last problem began, in seconds since the epoch; 0, if there was none.
-pub(crate) fn began(object: ObjectId, events: &[Event]) -> u64
-    ensures { result ≡ began object.0 (reverse events.now) }
+/// Whether this event changes the hard state of the object, which was `old` before it.
+pub(crate) fn changes(object: ObjectId, event: EventKind, old: State) -> bool
+    ensures { result ≡ not (same_state (hard_after object.0 event old) old) }
+{
+    !same_state(event.hard_after(object, old), old)
+}
+
+/// Whether the first delay runs anew from this event, of which the hard state was `old` before it: where a problem begins,
+/// or by the daemon's rule where the hard state changes.
+fn delays(choices: Choices, object: ObjectId, event: EventKind, old: State) -> bool
+    ensures { result ≡ (if choices.delay then not (same_state (hard_after object.0 event old) old)
+        else (is_problem_of object.0 event && not (is_problem_state old))) }
+{
+    if choices.delay {
+        changes(object, event, old)
+    } else {
+        begins(object, event, old)
+    }
+}
+
+/// Since when the first delay runs, in seconds since the epoch; 0, where it never did.
+pub(crate) fn delayed(config: &Config, object: ObjectId, events: &[Event]) -> u64
+    ensures { result ≡ delayed config.now object.0 (reverse events.now) }
 {
     let mut began = 0;
     let mut greatest: u64 = 0;
     let mut state = State::Pending;
     for event in events {
         greatest = greatest.max(event.moment);
-        if begins(object, event.kind, state) {
+        if delays(config.choices, object, event.kind, state) {
             began = greatest;
         }
         state = event.kind.hard_after(object, state);
@@ -180,13 +230,13 @@ pub(crate) fn moment_at(event: &Event, past: &[Event]) -> u64
     moment(past).max(event.moment)
 }
 
-/// The moment at which the object's last problem began, this event counted; 0, if there was none.
-pub(crate) fn began_at(object: ObjectId, event: &Event, past: &[Event]) -> u64
-    ensures { result ≡ began object.0 (event.now ∷ reverse past.now) }
+/// Since when the first delay runs, this event counted; 0, where it never did.
+pub(crate) fn delayed_at(config: &Config, object: ObjectId, event: &Event, past: &[Event]) -> u64
+    ensures { result ≡ delayed config.now object.0 (event.now ∷ reverse past.now) }
 {
-    if begins(object, event.kind, hard(object, past)) {
+    if delays(config.choices, object, event.kind, hard(object, past)) {
         moment_at(event, past)
     } else {
-        began(object, past)
+        delayed(config, object, past)
     }
 }

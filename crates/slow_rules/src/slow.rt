@@ -5,8 +5,9 @@ ghost use Rattle.due_model.specs.Accepted.{IsAccepted};
 ghost use Rattle.due_model.specs.Due.{due, due_for, sup, suppressed_for};
 ghost use Rattle.due_model.specs.Proper.{IsProper};
 
+use crate::attempts::released_after;
 use crate::notices::{Answers, add_answers};
-use crate::outcomes::outcome;
+use crate::outcomes::{is_over, outcome};
 use crate::subject::Subject;
 use due_model::config::{Config, LaneId, ObjectId};
 use due_model::event::Event;
@@ -33,16 +34,23 @@ fn find_answers(
         (reverse events.now)) }
 {
     let mut history = Vec::new(alloc);
+    let mut over = false;
+    let mut released = None;
     let mut answers = Answers {
         due: Vec::new(alloc),
         suppressed: Vec::new(alloc),
     };
     for (index, event) in events.iter().enumerate() {
         let past = &events[..index];
-        let now = outcome(alloc, subject, event, past, history.as_slice())?;
+        let so_far = history.as_slice();
+        let now = outcome(alloc, subject, event, past, so_far, over, released)?;
+        let ends = is_over(alloc, subject, event, past, so_far, now, over)?;
+        let freed = released_after(subject, event, past, now, released);
         let number = index as u64;
         add_answers(alloc, subject, lane, number, now, &mut answers)?;
         history.push(now)?;
+        over = ends;
+        released = freed;
     }
     Ok(answers)
 }

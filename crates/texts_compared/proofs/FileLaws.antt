@@ -1,5 +1,6 @@
 -- From a comparison of configurations to one of object texts.
 use Rattle.std.proofs.Common.{◌≡◌, ℕ, Bool, true, List, Option, None, Some, IfSome, inl, inr}
+use Rattle.due_model.specs.declared.config.Choices.{Choices}
 use Rattle.due_model.specs.declared.config.Config.{Config}
 use Rattle.due_model.specs.declared.zone.Zone.{Zone}
 use Rattle.written.specs.WrittenLaws.{keeps_same}
@@ -8,7 +9,7 @@ use Rattle.command_output.specs.declared.outcome.CommandFault.TheVariants.{Objec
 use Rattle.command_output.specs.declared.outcome.Ending.{Ending}
 use Rattle.command_output.specs.Outcome.{IsWriteFault}
 use Rattle.command_input.specs.InputLaws.{some_all, some_known, text_failed}
-use Rattle.command_input.specs.Objects.{CommandFails, FileFails, IsFileOf, IsTextOf}
+use Rattle.command_input.specs.Objects.{CommandFails, FileFails, IsFileOf, IsTextBy}
 use Rattle.changed_notices.specs.declared.changed.ChangeForm.{ChangeForm}
 use Rattle.texts_compared.specs.declared.fault.CompareFault.{CompareFault}
 use Rattle.texts_compared.specs.declared.fault.CompareFault.TheVariants.{Command, With, WithUnreadable}
@@ -24,16 +25,16 @@ each_known P Q R S (Some first) None known p q s each = tt
 each_known P Q R S (Some first) (Some second) None p q s each = tt
 each_known P Q R S (Some first) (Some second) (Some bytes) p q s each = each first second bytes p q s
 
-module _ (form : ChangeForm) (x y can_fail : Bool) (zone : Zone) (firsts seconds known : Option (List ℕ)) (old new : Option (List ℕ)) where
+module _ (choices : Choices) (form : ChangeForm) (x y can_fail : Bool) (zone : Zone) (firsts seconds known : Option (List ℕ)) (old new : Option (List ℕ)) where
   -- the first text gives no configuration
-  pub first_failed : (fault : CommandFault) → FileFails x fault firsts
-      → IfSome firsts (λ first. IfSome seconds (λ second. IfSome known (λ bytes. FailsOf form x y can_fail first second bytes zone (Command fault) old old)))
+  pub first_failed : (fault : CommandFault) → FileFails choices x fault firsts
+      → IfSome firsts (λ first. IfSome seconds (λ second. IfSome known (λ bytes. FailsOf choices form x y can_fail first second bytes zone (Command fault) old old)))
   first_failed fault h =
-      some_known firsts (λ k. FileFails x fault k) (λ first. IfSome seconds (λ second. IfSome known (λ bytes. FailsOf form x y can_fail first second bytes zone (Command fault) old old))) h
+      some_known firsts (λ k. FileFails choices x fault k) (λ first. IfSome seconds (λ second. IfSome known (λ bytes. FailsOf choices form x y can_fail first second bytes zone (Command fault) old old))) h
       (λ first fails. some_all seconds _ (λ second. some_all known _
-      (λ bytes. text_failed x None first fault old (ComparesFrontOf form can_fail first second bytes zone old old) fails)))
+      (λ bytes. text_failed choices x None first fault old (ComparesFrontOf choices form can_fail first second bytes zone old old) fails)))
 
-  second_at : (a : Config) (fault : CompareFault) (first second bytes : List ℕ) → IsTextOf a first → SecondFails y fault (Some second) → FailsOf form x y can_fail first second bytes zone fault old old
+  second_at : (a : Config) (fault : CompareFault) (first second bytes : List ℕ) → IsTextBy choices a first → SecondFails choices y fault (Some second) → FailsOf choices form x y can_fail first second bytes zone fault old old
   second_at a (With fault) first second bytes of h = (a, of, h, keeps_same old)
   second_at a WithUnreadable first second bytes of h = (a, of, keeps_same old, h)
   second_at a (Command (Objects fault)) first second bytes of h = absurd h
@@ -42,23 +43,23 @@ module _ (form : ChangeForm) (x y can_fail : Bool) (zone : Zone) (firsts seconds
   second_at a (Command NoMemory) first second bytes of h = inl (keeps_same old)
 
   -- the second gives none
-  pub second_failed : (a : Config) (fault : CompareFault) → IsFileOf a firsts → SecondFails y fault seconds
-      → IfSome firsts (λ first. IfSome seconds (λ second. IfSome known (λ bytes. FailsOf form x y can_fail first second bytes zone fault old old)))
+  pub second_failed : (a : Config) (fault : CompareFault) → IsFileOf choices a firsts → SecondFails choices y fault seconds
+      → IfSome firsts (λ first. IfSome seconds (λ second. IfSome known (λ bytes. FailsOf choices form x y can_fail first second bytes zone fault old old)))
   second_failed a fault of h =
-      some_known firsts (λ k. IsFileOf a k) (λ first. IfSome seconds (λ second. IfSome known (λ bytes. FailsOf form x y can_fail first second bytes zone fault old old))) of
-      (λ first is. some_known seconds (λ k. SecondFails y fault k) (λ second. IfSome known (λ bytes. FailsOf form x y can_fail first second bytes zone fault old old)) h
+      some_known firsts (λ k. IsFileOf choices a k) (λ first. IfSome seconds (λ second. IfSome known (λ bytes. FailsOf choices form x y can_fail first second bytes zone fault old old))) of
+      (λ first is. some_known seconds (λ k. SecondFails choices y fault k) (λ second. IfSome known (λ bytes. FailsOf choices form x y can_fail first second bytes zone fault old old)) h
       (λ second fails. some_all known _ (λ bytes. second_at a fault first second bytes is fails)))
 
-  module _ (a b : Config) (of : IsFileOf a firsts) (of' : IsFileOf b seconds) where
+  module _ (a b : Config) (of : IsFileOf choices a firsts) (of' : IsFileOf choices b seconds) where
     -- both give one, and the changes were written
     pub compares : (ending : Ending) → IfSome known (λ bytes. ComparesFor form can_fail a b bytes zone ending old new)
-        → IfSome firsts (λ first. IfSome seconds (λ second. IfSome known (λ bytes. ComparesOf form can_fail first second bytes zone ending old new)))
+        → IfSome firsts (λ first. IfSome seconds (λ second. IfSome known (λ bytes. ComparesOf choices form can_fail first second bytes zone ending old new)))
     compares ending h =
-        each_known (IsTextOf a) (IsTextOf b) (λ first second bytes. ComparesOf form can_fail first second bytes zone ending old new) (λ bytes. ComparesFor form can_fail a b bytes zone ending old new) firsts seconds known of of' h
+        each_known (IsTextBy choices a) (IsTextBy choices b) (λ first second bytes. ComparesOf choices form can_fail first second bytes zone ending old new) (λ bytes. ComparesFor form can_fail a b bytes zone ending old new) firsts seconds known of of' h
         (λ first second bytes is is' all. (a, b, is, is', all))
 
-    fails_at : (sink : Bool) (fault : CommandFault) (first second bytes : List ℕ) → IsWriteFault sink fault → ComparesFrontOf form can_fail first second bytes zone old new
-        → FailsOf form x y can_fail first second bytes zone (Command fault) old new
+    fails_at : (sink : Bool) (fault : CommandFault) (first second bytes : List ℕ) → IsWriteFault sink fault → ComparesFrontOf choices form can_fail first second bytes zone old new
+        → FailsOf choices form x y can_fail first second bytes zone (Command fault) old new
     fails_at sink (Objects fault) first second bytes w h = absurd w
     fails_at sink Unreadable first second bytes w h = absurd w
     fails_at sink Output first second bytes w h = h
@@ -66,14 +67,14 @@ module _ (form : ChangeForm) (x y can_fail : Bool) (zone : Zone) (firsts seconds
 
     -- or a front of them
     pub fails : (sink : Bool) (fault : CommandFault) → IsWriteFault sink fault → IfSome known (λ bytes. ComparesFrontFor form can_fail a b bytes zone old new)
-        → IfSome firsts (λ first. IfSome seconds (λ second. IfSome known (λ bytes. FailsOf form x y can_fail first second bytes zone (Command fault) old new)))
+        → IfSome firsts (λ first. IfSome seconds (λ second. IfSome known (λ bytes. FailsOf choices form x y can_fail first second bytes zone (Command fault) old new)))
     fails sink fault w h =
-        each_known (IsTextOf a) (IsTextOf b) (λ first second bytes. FailsOf form x y can_fail first second bytes zone (Command fault) old new) (λ bytes. ComparesFrontFor form can_fail a b bytes zone old new) firsts seconds known of of' h
+        each_known (IsTextBy choices a) (IsTextBy choices b) (λ first second bytes. FailsOf choices form x y can_fail first second bytes zone (Command fault) old new) (λ bytes. ComparesFrontFor form can_fail a b bytes zone old new) firsts seconds known of of' h
         (λ first second bytes is is' front. fails_at sink fault first second bytes w (a, b, is, is', front))
 
 -- a fault of the second text, where it was read
-pub second_reads : (y : Bool) (fault : CommandFault) (seconds : Option (List ℕ)) → FileFails y fault seconds → SecondFails y (fault_of_second fault) seconds
-second_reads y (Objects fault) seconds h = h
-second_reads y Unreadable seconds h = h
-second_reads y Output seconds h = h
-second_reads y NoMemory seconds h = tt
+pub second_reads : (choices : Choices) (y : Bool) (fault : CommandFault) (seconds : Option (List ℕ)) → FileFails choices y fault seconds → SecondFails choices y (fault_of_second fault) seconds
+second_reads choices y (Objects fault) seconds h = h
+second_reads choices y Unreadable seconds h = h
+second_reads choices y Output seconds h = h
+second_reads choices y NoMemory seconds h = tt

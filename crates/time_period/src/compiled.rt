@@ -168,8 +168,17 @@ impl Compiled {
         if self.is_weekly() {
             self.is_in(zone, t, &mut [])
         } else {
-            self.is_in(zone, t, &mut [false; MAX_PERIODS])
+            self.is_in_by_steps(zone, t)
         }
+    }
+
+    /// The same. (The flags are made in a function of their own, since the compiler makes them wherever it begins.)
+    fn is_in_by_steps(&self, zone: &ZoneClock<'_>, t: u64) -> bool
+        requires { t ≤ last_moment }
+        ensures { (c : Config) (period : PeriodId) → IsCompiled c period self.now
+            → result ≡ in_period c zone.now (Some period) t }
+    {
+        self.is_in(zone, t, &mut [false; MAX_PERIODS])
     }
 
     /// The same, by flags.
@@ -192,8 +201,17 @@ impl Compiled {
         if self.is_weekly() {
             self.next_by(zone, t, &mut [])
         } else {
-            self.next_by(zone, t, &mut [false; MAX_PERIODS])
+            self.next_by_steps(zone, t)
         }
+    }
+
+    /// The same, by flags that are made here.
+    fn next_by_steps(&self, zone: &ZoneClock<'_>, t: u64) -> Option<u64>
+        requires { t ≤ last_moment }
+        ensures { (c : Config) (period : PeriodId) → IsCompiled c period self.now
+            → result ≡ next_in c zone.now (Some period) t }
+    {
+        self.next_by(zone, t, &mut [false; MAX_PERIODS])
     }
 
     /// The same, by flags.

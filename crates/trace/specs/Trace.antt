@@ -1,5 +1,6 @@
 -- What a trace does: it writes what its steps lead to, or fails.
 use Rattle.std.specs.Prelude.{◌≡◌, ℕ, ◌+◌, Bool, true, false, List, [], ◌++◌, length, replicate, ◌⊎◌, Option}
+use Rattle.due_model.specs.declared.config.Choices.{Choices}
 use Rattle.due_model.specs.declared.config.Config.{Config}
 use Rattle.due_model.specs.declared.zone.Zone.{Zone}
 use Rattle.due_model.specs.declared.zone.Zone.TheVariants.{Utc}
@@ -16,7 +17,7 @@ use Rattle.trace.specs.declared.feed.AfterFeed.{AfterFeed}
 use Rattle.trace.specs.declared.feed.AfterFeed.TheVariants as feed
 use Rattle.trace.specs.Feed.{FeedBegins, FeedEnds, FeedState, after_answers}
 use Rattle.trace.specs.LaneLines.{world_text}
-use Rattle.command_input.specs.Objects.{CommandFails, IsTextOf, feed_in, objects_in}
+use Rattle.command_input.specs.Objects.{CommandFails, IsTextBy, feed_in, objects_in}
 use Rattle.trace.specs.Run.{RunState}
 use Rattle.trace.specs.StepLines.{DoesFirst, DoesSteps}
 
@@ -104,17 +105,17 @@ TracesFeed can_fail c zone settings standbys bytes ending old new =
     × Writes old new ((after_answers no_feed given).text ++ text)
 
 -- the same of the bytes of an input, whose object text was accepted, for local times of a zone
-abbrev pub TracesIn : (can_fail : Bool) → Zone → Settings → (standbys : ℕ) → (bytes : List ℕ) → Ending
+abbrev pub TracesIn : Choices → (can_fail : Bool) → Zone → Settings → (standbys : ℕ) → (bytes : List ℕ) → Ending
     → (old new : Option (List ℕ)) → Type 0
-TracesIn can_fail zone settings standbys bytes ending old new =
-    (config : Config) × IsTextOf config (objects_in bytes)
+TracesIn choices can_fail zone settings standbys bytes ending old new =
+    (config : Config) × IsTextBy choices config (objects_in bytes)
     × TracesFeed can_fail config zone settings standbys (feed_in bytes) ending old new
 
 -- and in UTC
-abbrev pub Traces : (can_fail : Bool) → Settings → (standbys : ℕ) → (bytes : List ℕ) → Ending
+abbrev pub Traces : Choices → (can_fail : Bool) → Settings → (standbys : ℕ) → (bytes : List ℕ) → Ending
     → (old new : Option (List ℕ)) → Type 0
-Traces can_fail settings standbys bytes ending old new =
-    TracesIn can_fail Utc settings standbys bytes ending old new
+Traces choices can_fail settings standbys bytes ending old new =
+    TracesIn choices can_fail Utc settings standbys bytes ending old new
 
 -- What is written first of a feed and the steps after it: of the first lines of the feed, or of all of it and of the first
 -- step lines, or all.
@@ -137,15 +138,15 @@ TracesFront can_fail c zone settings standbys bytes old new =
     × WritesFront old new ((after_answers no_feed given).text ++ text)
 
 -- the same of the bytes of an input, whose object text was accepted
-abbrev pub TracesFrontIn : (can_fail : Bool) → Zone → Settings → (standbys : ℕ) → (bytes : List ℕ)
+abbrev pub TracesFrontIn : Choices → (can_fail : Bool) → Zone → Settings → (standbys : ℕ) → (bytes : List ℕ)
     → (old new : Option (List ℕ)) → Type 0
-TracesFrontIn can_fail zone settings standbys bytes old new =
-    (config : Config) × IsTextOf config (objects_in bytes)
+TracesFrontIn choices can_fail zone settings standbys bytes old new =
+    (config : Config) × IsTextBy choices config (objects_in bytes)
     × TracesFront can_fail config zone settings standbys (feed_in bytes) old new
 
 -- what a fault says: a front of the trace is written at most
-abbrev pub FailsWith : (can_fail : Bool) → Zone → Settings → (standbys : ℕ) → (bytes : List ℕ) → CommandFault
+abbrev pub FailsWith : Choices → (can_fail : Bool) → Zone → Settings → (standbys : ℕ) → (bytes : List ℕ) → CommandFault
     → (old new : Option (List ℕ)) → Type 0
-FailsWith can_fail zone settings standbys bytes fault old new =
-    CommandFails can_fail (objects_in bytes) fault old new
-    (TracesFrontIn can_fail zone settings standbys bytes old new)
+FailsWith choices can_fail zone settings standbys bytes fault old new =
+    CommandFails choices can_fail (objects_in bytes) fault old new
+    (TracesFrontIn choices can_fail zone settings standbys bytes old new)

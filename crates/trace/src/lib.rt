@@ -4,6 +4,7 @@
 ghost use Rattle.std.specs.Prelude.{◌≡◌, ◌<◌, false, IfErr, IfOk, IfSome, IsErrOf, OnErr};
 ghost use Rattle.due_model.specs.Accepted.{IsAccepted};
 ghost use Rattle.due_model.specs.declared.zone.Zone.{Zone};
+ghost use Rattle.due_model.specs.Choices.{own};
 ghost use Rattle.command_output.specs.Outcome.{IsWriteFault};
 ghost use Rattle.steps.specs.Settings.{max_channels};
 ghost use Rattle.text_lines.specs.LineReader.{to_come};
@@ -19,7 +20,7 @@ mod step_lines;
 
 use command_input::read_objects;
 use command_output::{CommandFault, Ending, Lines, Sink};
-use due_model::config::Config;
+use due_model::config::{Choices, Config};
 use due_model::zone::Zone;
 use ending::write_end;
 use event_feed::Feeder;
@@ -44,21 +45,30 @@ pub fn trace<R: Input + Drop, W: Sink>(
     requires standbys { standbys < max_channels }
     // What is written is what the input makes of the steps, and nothing else.
     ensures traces { IfSome (R.remaining reader) (λ bytes. IfOk result (λ ending.
-        Traces R.can_fail settings standbys bytes ending (W.contents writer.old) (W.contents writer.new))) }
+        Traces own R.can_fail settings standbys bytes ending (W.contents writer.old) (W.contents writer.new))) }
     // A fault says what was wrong, and what was written.
     ensures fault { IfSome (R.remaining reader) (λ bytes. IfErr result (λ fault.
-        FailsWith R.can_fail Zone.Utc settings standbys bytes fault
+        FailsWith own R.can_fail Zone.Utc settings standbys bytes fault
         (W.contents writer.old) (W.contents writer.new))) }
     // The output failed only where a call of the writer did.
     ensures sure { W.can_fail ≡ false → ¬ IsErrOf result CommandFault.Output }
 {
     let zone = Zone::Utc;
-    trace_in(alloc, &zone, settings, standbys, reader, writer)
+    trace_in(
+        alloc,
+        Choices::own(),
+        &zone,
+        settings,
+        standbys,
+        reader,
+        writer,
+    )
 }
 
-/// The same, for local times of a zone.
+/// The same, by these choices, for local times of a zone.
 pub fn trace_in<R: Input + Drop, W: Sink>(
     alloc: Global,
+    choices: Choices,
     zone: &Zone,
     settings: Settings,
     standbys: u8,
@@ -67,15 +77,15 @@ pub fn trace_in<R: Input + Drop, W: Sink>(
 ) -> Result<Ending, CommandFault>
     requires standbys { standbys < max_channels }
     ensures traces { IfSome (R.remaining reader) (λ bytes. IfOk result (λ ending.
-        TracesIn R.can_fail zone.now settings standbys bytes ending
+        TracesIn choices R.can_fail zone.now settings standbys bytes ending
         (W.contents writer.old) (W.contents writer.new))) }
     ensures fault { IfSome (R.remaining reader) (λ bytes. IfErr result (λ fault.
-        FailsWith R.can_fail zone.now settings standbys bytes fault
+        FailsWith choices R.can_fail zone.now settings standbys bytes fault
         (W.contents writer.old) (W.contents writer.new))) }
     ensures sure { W.can_fail ≡ false → ¬ IsErrOf result CommandFault.Output }
 {
     let mut lines = LineReader::new(alloc, reader)?;
-    let config = read_objects(alloc, &mut lines)?;
+    let config = read_objects(alloc, choices, &mut lines)?;
     trace_feed(alloc, zone, settings, standbys, &config, lines, writer)
 }
 

@@ -9,7 +9,7 @@ use Rattle.due_model.specs.declared.notice.Kind.{Kind}
 use Rattle.due_model.specs.declared.notice.Kind.TheVariants as kind
 use Rattle.due_model.specs.declared.zone.Zone.{Zone}
 use Rattle.due_model.specs.ByObject.{places_of}
-use Rattle.due_model.specs.Due.{rights_for}
+use Rattle.due_model.specs.Receivers.{rights_for}
 use Rattle.due_model.specs.Escalations.{has_contact}
 use Rattle.due_model.specs.Objects.{object_named}
 use Rattle.messages.specs.declared.entries.Entry.TheVariants.{Sent, Withheld}
@@ -63,6 +63,7 @@ counts kind.FlappingStop first number = false
 counts kind.DowntimeStart first number = false
 counts kind.DowntimeEnd first number = false
 counts kind.DowntimeCancelled first number = false
+counts kind.Acknowledgement first number = false
 
 -- it is of such a notice that passed the filters of the object
 abbrev pub comes_to : (first : ℕ) → ReportLine → Bool

@@ -81,6 +81,7 @@ fn counts(kind: Kind, first: u64, number: u64) -> bool
         Kind::DowntimeStart => false,
         Kind::DowntimeEnd => false,
         Kind::DowntimeCancelled => false,
+        Kind::Acknowledgement => false,
     }
 }
 

@@ -4,7 +4,7 @@ ghost use Rattle.std.specs.Prelude.{◌≡◌};
 ghost use Rattle.due_model.specs.Escalations.{has_contact};
 ghost use Rattle.std.specs.List.{list_any};
 ghost use Rattle.due_model.specs.ByObject.{places_of};
-ghost use Rattle.due_model.specs.Due.{rights_for};
+ghost use Rattle.due_model.specs.Receivers.{rights_for};
 ghost use Rattle.who_missed.specs.Missed.{has_command, is_named, is_named_at, is_own};
 
 use due_model::config::{Config, Contact, ContactId, Object, ObjectId, Rights};

@@ -1,11 +1,12 @@
 -- From what is told of a report to the table of it, and to who is missing there.
 use Rattle.std.proofs.Common.{◌≡◌, ℕ, ◌+◌, ◌*◌, Bool, true, false, ◌||◌, List, [], ◌∷◌, ◌++◌, flat_map, Option, Result, Ok, Err, None, Some, IfErr, IfOk, IfSome, OnErr, refl, sym, ap, subst, ◌∙◌, inl, inr, append_assoc}
 use Rattle.std.proofs.lemmas.List.{append-nil}
+use Rattle.due_model.specs.declared.config.Choices.{Choices}
 use Rattle.due_model.specs.declared.config.Config.{Config}
 use Rattle.due_model.specs.declared.zone.Zone.{Zone}
 use Rattle.event_feed.specs.Feed.{Answer, answers}
 use Rattle.text_lines.specs.Lines.{pieces}
-use Rattle.command_input.specs.Objects.{IsTextOf}
+use Rattle.command_input.specs.Objects.{IsTextBy}
 use Rattle.command_output.specs.declared.outcome.CommandFault.TheVariants as command
 use Rattle.command_output.specs.declared.outcome.Ending.{Ending}
 use Rattle.written.specs.Written.{Writes, WritesFront}
@@ -146,8 +147,8 @@ module _ (form : RowForm) (s : Supposed) (c : Config) (zone : Zone) where
 
 -- ---- where all names are known
 
-module _ (form : RowForm) (s : Supposed) (objects : List ℕ) (c : Config) (zone : Zone) (can_fail text_can_fail : Bool) (old new : Option (List ℕ)) (of : IsTextOf c objects) where
-  pub known_failed : (fault : WhoFault) → FailsFor form can_fail s c zone fault old new → FailsOf form s text_can_fail objects zone fault old new
+module _ (choices : Choices) (form : RowForm) (s : Supposed) (objects : List ℕ) (c : Config) (zone : Zone) (can_fail text_can_fail : Bool) (old new : Option (List ℕ)) (of : IsTextBy choices c objects) where
+  pub known_failed : (fault : WhoFault) → FailsFor form can_fail s c zone fault old new → FailsOf choices form s text_can_fail objects zone fault old new
   known_failed (fault.Unknown unknown) h = (c, of, h.0, h.1)
   known_failed (fault.Command (command.Objects fault)) h = absurd h.0
   known_failed (fault.Command command.Unreadable) h = absurd h.0

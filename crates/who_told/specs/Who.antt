@@ -2,6 +2,7 @@
 use Rattle.std.specs.Prelude.{◌≡◌, ℕ, ◌+◌, ◌*◌, Bool, false, List, [], ◌++◌, map, Option, None, Some}
 use Rattle.std.specs.Option.{option_copied}
 use Rattle.std.specs.Io.KnownBytes.{Keeps}
+use Rattle.due_model.specs.declared.config.Choices.{Choices}
 use Rattle.due_model.specs.declared.config.Config.{Config}
 use Rattle.due_model.specs.declared.zone.Zone.{Zone}
 use Rattle.event_feed.specs.Feed.{Answer}
@@ -10,7 +11,7 @@ use Rattle.made_feed.specs.Made.{made_feed}
 use Rattle.command_output.specs.Outcome.{IsWriteFault}
 use Rattle.command_output.specs.declared.outcome.Ending.{Ending}
 use Rattle.written.specs.Written.{Writes, WritesFront}
-use Rattle.command_input.specs.Objects.{CommandFails, IsTextOf}
+use Rattle.command_input.specs.Objects.{CommandFails, IsTextBy}
 use Rattle.replay.specs.Replay.{AreOfFeed}
 use Rattle.replay.specs.Report.{ending_after}
 use Rattle.report_telling.specs.Lines.{report_lines}
@@ -98,22 +99,24 @@ FailsFor form can_fail s config zone (fault.Command command) old new =
 -- ---- for object text
 
 -- What was written is that, for the configuration of the object text.
-abbrev pub TellsWho : RowForm → Supposed → (objects : List ℕ) → Zone → Ending → (old new : Option (List ℕ))
-    → Type 0
-TellsWho form s objects zone ending old new =
-    (config : Config) × IsTextOf config objects × TellsKnown form s config zone ending old new
+abbrev pub TellsWho : Choices → RowForm → Supposed → (objects : List ℕ) → Zone → Ending
+    → (old new : Option (List ℕ)) → Type 0
+TellsWho choices form s objects zone ending old new =
+    (config : Config) × IsTextBy choices config objects
+    × TellsKnown form s config zone ending old new
 
 -- what was written is a front of it
-abbrev pub TellsWhoFront : RowForm → Supposed → (objects : List ℕ) → Zone → (old new : Option (List ℕ))
-    → Type 0
-TellsWhoFront form s objects zone old new =
-    (config : Config) × IsTextOf config objects × TellsBothFront form s config zone old new
+abbrev pub TellsWhoFront : Choices → RowForm → Supposed → (objects : List ℕ) → Zone
+    → (old new : Option (List ℕ)) → Type 0
+TellsWhoFront choices form s objects zone old new =
+    (config : Config) × IsTextBy choices config objects
+    × TellsBothFront form s config zone old new
 
 -- what a fault says: this is the first that isn't known, and nothing was written; or a front of it was at most
-abbrev pub FailsOf : RowForm → Supposed → (can_fail : Bool) → (objects : List ℕ) → Zone → WhoFault
-    → (old new : Option (List ℕ)) → Type 0
-FailsOf form s can_fail objects zone (fault.Unknown unknown) old new =
-    (config : Config) × IsTextOf config objects × (unknown_in config s ≡ Some unknown)
+abbrev pub FailsOf : Choices → RowForm → Supposed → (can_fail : Bool) → (objects : List ℕ) → Zone
+    → WhoFault → (old new : Option (List ℕ)) → Type 0
+FailsOf choices form s can_fail objects zone (fault.Unknown unknown) old new =
+    (config : Config) × IsTextBy choices config objects × (unknown_in config s ≡ Some unknown)
     × Keeps old new
-FailsOf form s can_fail objects zone (fault.Command command) old new =
-    CommandFails can_fail objects command old new (TellsWhoFront form s objects zone old new)
+FailsOf choices form s can_fail objects zone (fault.Command command) old new =
+    CommandFails choices can_fail objects command old new (TellsWhoFront choices form s objects zone old new)

@@ -15,7 +15,7 @@ mod rows;
 
 use command_input::read_object_file;
 use command_output::{CommandFault, Ending, Sink};
-use due_model::config::Config;
+use due_model::config::{Choices, Config};
 use due_model::zone::Zone;
 pub use fault::WhoFault;
 use made_feed::{Supposed, make_feed};
@@ -40,6 +40,7 @@ const WEEK: u32 = 10_080;
 /// memory runs out, a front of that was.
 pub fn who<'a, O: Input + Drop, W: Sink>(
     alloc: Global,
+    choices: Choices,
     zone: &Zone,
     objects: O,
     supposed: &Supposed<'a>,
@@ -49,16 +50,16 @@ pub fn who<'a, O: Input + Drop, W: Sink>(
     requires { supposed.now.moment < 2 ^ 40 }
     // All names are known. What is written is the table of that report, and who is missing in it, and nothing else.
     ensures table { IfSome (O.remaining objects) (λ text. IfOk result (λ ending.
-        TellsWho form supposed.now text zone.now ending (W.contents writer.old) (W.contents writer.new))) }
+        TellsWho choices form supposed.now text zone.now ending (W.contents writer.old) (W.contents writer.new))) }
     // A fault says what was wrong, and what was written.
     ensures fault { IfSome (O.remaining objects) (λ text. IfErr result (λ fault.
-        FailsOf form supposed.now O.can_fail text zone.now fault
+        FailsOf choices form supposed.now O.can_fail text zone.now fault
         (W.contents writer.old) (W.contents writer.new))) }
     // The output failed only where a call of the writer did.
     ensures sure { W.can_fail ≡ false
         → ¬ IsErrOf result (WhoFault.Command CommandFault.Output) }
 {
-    let config = read_object_file(alloc, objects)?;
+    let config = read_object_file(alloc, choices, objects)?;
     tell_known(alloc, &config, zone, supposed, form, writer)
 }
 

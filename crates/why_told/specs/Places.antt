@@ -1,7 +1,16 @@
 -- Where the values stand in the object text that filters go by.
 use Rattle.std.specs.Prelude.{ℕ, ◌+◌, ◌*◌, List, [], ◌∷◌, ◌++◌, codes, slice_index_or}
 use Rattle.due_model.specs.declared.notice.Filter.{Filter}
-use Rattle.due_model.specs.declared.notice.Filter.TheVariants.{ContactOptions, ContactPeriod}
+use Rattle.due_model.specs.declared.notice.Filter.TheVariants.{ContactOptions, ContactPeriod, Disabled, FirstDelay, Interval, Options, Period}
+
+-- that of an object's filter among the eleven; the first, of a filter that goes by no directive, where this one goes by none
+abbrev pub object_place : Filter → ℕ
+object_place Disabled = 1
+object_place Options = 4
+object_place Period = 6
+object_place FirstDelay = 9
+object_place Interval = 10
+object_place filter = 0
 
 -- which of a contact's three places is that of a filter
 abbrev pub right_place : Filter → ℕ

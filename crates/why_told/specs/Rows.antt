@@ -18,8 +18,8 @@ use Rattle.pretty_lines.specs.Columns.{paint}
 use Rattle.who_missed.specs.declared.forms.RowForm.{RowForm}
 use Rattle.who_missed.specs.Forms.{is_coloured, is_json, row_end}
 use Rattle.why_told.specs.declared.teller.Asked.{Asked}
-use Rattle.why_told.specs.Places.{contact_place, place_text}
-use Rattle.filter_values.specs.Values.{contact_filter_text, filter_text, place_of}
+use Rattle.why_told.specs.Places.{contact_place, object_place, place_text}
+use Rattle.filter_values.specs.Values.{contact_filter_text, filter_text}
 
 -- the number of a notice, where it has one
 abbrev pub notice_number : ℕ → List ℕ
@@ -83,7 +83,7 @@ stopped_row c s = codes "    stopped      " ++ filter_text c s.object.0 s.filter
 
 unfoldable pub stopped_text : (coloured : Bool) → (places : List (List ℕ)) → Config → Suppression → List ℕ
 stopped_text coloured places c s =
-    paint coloured (codes "31") ++ stopped_row c s ++ place_text places (place_of s.filter)
+    paint coloured (codes "31") ++ stopped_row c s ++ place_text places (object_place s.filter)
     ++ row_end coloured
 
 -- how a row of what a filter stopped went on after its first

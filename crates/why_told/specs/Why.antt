@@ -17,10 +17,10 @@ use Rattle.why_told.specs.declared.text.Attempt.{Attempt}
 use Rattle.why_told.specs.Attempts.{goes_on, has_event}
 use Rattle.why_told.specs.Missing.{missing_of}
 use Rattle.why_told.specs.Nothing.{nothing_text}
-use Rattle.why_told.specs.Places.{place_at}
+use Rattle.why_told.specs.Places.{object_place, place_at}
 use Rattle.why_told.specs.Rows.{head_text, more_row, refused_of, stopped_text, told_of}
 use Rattle.filter_values.specs.Tried.{tried_json}
-use Rattle.filter_values.specs.Values.{passed_text, place_of}
+use Rattle.filter_values.specs.Values.{filter_count, passed_text, place_of}
 
 -- ---- how what is open ends
 
@@ -49,14 +49,14 @@ ending_text asked c zone before current =
 -- its filters, and the one that stopped it
 unfoldable pub stop_rows : (coloured : Bool) → (places : List (List ℕ)) → Config → Zone → Suppression → List ℕ
 stop_rows coloured places c zone s =
-    head_text zone s.moment s.kind s.state 0 ++ passed_text c s.object.0 (place_of s.filter)
+    head_text zone s.moment s.kind s.state 0 ++ passed_text c s.object.0 (place_of c.choices s.filter)
     ++ stopped_text coloured places c s
 
 -- as JSON: its filters, and the line of the report
 unfoldable pub stop_json : (places : List (List ℕ)) → Config → Zone → Suppression → List ℕ
 stop_json places c zone s =
-    tried_json c s.event s.object.0 (place_of s.filter) (Some s.filter)
-    (place_at places (place_of s.filter))
+    tried_json c s.event s.object.0 (place_of c.choices s.filter) (Some s.filter)
+    (place_at places (object_place s.filter))
     ++ json_text c zone (Decided (Withheld s))
 
 abbrev pub new_stop_text : Asked → Config → Zone → Suppression → List ℕ
@@ -99,11 +99,12 @@ withheld_attempt s = record {
 -- all filters of the object passed
 unfoldable pub out_rows : Config → Zone → Attempt → List ℕ
 out_rows c zone a =
-    head_text zone a.moment a.kind a.state a.number ++ passed_text c a.object.0 11
+    head_text zone a.moment a.kind a.state a.number ++ passed_text c a.object.0 (filter_count c.choices)
 
 abbrev pub out_text : RowForm → Config → Zone → Attempt → List ℕ
 out_text form c zone a =
-    if is_json form then tried_json c a.event a.object.0 11 None [] else out_rows c zone a
+    if is_json form then tried_json c a.event a.object.0 (filter_count c.choices) None []
+    else out_rows c zone a
 
 -- how it begins, where it isn't open
 abbrev pub begin_text : Asked → Config → Zone → Open → Attempt → List ℕ

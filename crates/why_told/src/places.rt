@@ -1,7 +1,7 @@
 //! Where the values stand in the object text that filters go by.
 
 ghost use Rattle.std.specs.Prelude.{◌≡◌, ◌≤◌, ◌++◌, map, OnOk};
-ghost use Rattle.why_told.specs.Places.{contact_place, place_at, place_text, right_place, shown_place};
+ghost use Rattle.why_told.specs.Places.{contact_place, object_place, place_at, place_text, right_place, shown_place};
 
 use due_model::config::ContactId;
 use due_model::notice::Filter;
@@ -59,6 +59,20 @@ fn push_place(text: &mut Vec<u8>, place: &[u8]) -> Result<(), AllocError>
     };
     text.extend_from_slice(b"  ")?;
     text.extend_from_slice(place)
+}
+
+/// The number of the place of an object's filter; where it goes by no directive, that of another that goes by none.
+pub(crate) fn object_place(filter: Filter) -> usize
+    ensures { result ≡ object_place filter }
+{
+    match filter {
+        Filter::Disabled => 1,
+        Filter::Options => 4,
+        Filter::Period => 6,
+        Filter::FirstDelay => 9,
+        Filter::Interval => 10,
+        _ => 0,
+    }
 }
 
 /// Which of a contact's three places is that of a filter.

@@ -6,12 +6,12 @@ ghost use Rattle.why_told.specs.Rows.{head_text, is_asked, more_row, notice_numb
 ghost use Rattle.why_told.specs.Rows.{refused_row, refused_text, stopped_row, stopped_text, told_form, told_of};
 ghost use Rattle.why_told.specs.Rows.{told_row, told_text};
 
-use crate::places::{Places, contact_place};
+use crate::places::{Places, contact_place, object_place};
 use crate::teller::Asked;
 use due_model::config::{Config, ContactId};
 use due_model::notice::{Kind, Notice, Suppression};
 use due_model::state::State;
-use filter_values::{place_of, push_contact_filter, push_decimal, push_filter_after};
+use filter_values::{push_contact_filter, push_decimal, push_filter_after};
 use line_forms::{ReportLine, push_json};
 use local_text::push_local;
 use messages::entries::Entry;
@@ -236,7 +236,7 @@ pub(crate) fn push_stopped_text(
 {
     push_paint(text, coloured, b"31")?;
     push_stopped_row(text, config, stop)?;
-    places.push(text, place_of(stop.filter))?;
+    places.push(text, object_place(stop.filter))?;
     push_row_end(text, coloured)
 }
 

@@ -8,21 +8,18 @@ ghost use Rattle.why_told.specs.Why.{stop_json, stop_rows, stop_text, withheld_a
 use crate::attempts::Open;
 use crate::missing::push_missing;
 use crate::nothing::push_nothing;
-use crate::places::Places;
+use crate::places::{Places, object_place};
 use crate::rows::{push_head, push_more, push_refused, push_stopped_text, push_told};
 use crate::teller::Asked;
 use due_model::config::{Config, ContactId, ObjectId};
 use due_model::notice::{Kind, Notice, Suppression};
 use due_model::state::State;
-use filter_values::{place_of, push_passed, push_tried};
+use filter_values::{filter_count, place_of, push_passed, push_tried};
 use line_forms::{ReportLine, push_json};
 use messages::entries::Entry;
 use std::alloc::{AllocError, Global};
 use who_missed::{RowForm, is_coloured, is_json};
 use zone_times::clock::ZoneClock;
-
-/// How many filters an object has.
-const FILTERS: usize = 11;
 
 /// What an attempt is of.
 #[derive(Clone, Copy)]
@@ -142,7 +139,12 @@ fn push_stop_rows(
         ≡ text.old.items ++ stop_rows coloured places.now config.now clock.now stop.now) }
 {
     push_head(text, clock, stop.moment, stop.kind, stop.state, 0)?;
-    push_passed(text, config, stop.object, place_of(stop.filter))?;
+    push_passed(
+        text,
+        config,
+        stop.object,
+        place_of(config.choices, stop.filter),
+    )?;
     push_stopped_text(text, coloured, places, config, stop)
 }
 
@@ -159,7 +161,7 @@ fn push_stop_json(
     ensures { OnOk result (text.new.items
         ≡ text.old.items ++ stop_json places.now config.now clock.now stop.now) }
 {
-    let (object, place) = (stop.object, place_of(stop.filter));
+    let (object, place) = (stop.object, place_of(config.choices, stop.filter));
     push_tried(
         alloc,
         text,
@@ -168,7 +170,7 @@ fn push_stop_json(
         object,
         place,
         Some(stop.filter),
-        places.place(place),
+        places.place(object_place(stop.filter)),
     )?;
     let line = ReportLine::Decided(Entry::Withheld(*stop));
     push_json(alloc, text, config, clock, &line)
@@ -246,7 +248,7 @@ fn push_out_rows(
 {
     let (moment, number) = (attempt.moment, attempt.number);
     push_head(text, clock, moment, attempt.kind, attempt.state, number)?;
-    push_passed(text, config, attempt.object, FILTERS)
+    push_passed(text, config, attempt.object, filter_count(config.choices))
 }
 
 /// The same in a form.
@@ -263,7 +265,8 @@ fn push_out(
 {
     if is_json(form) {
         let (event, object) = (attempt.event, attempt.object);
-        push_tried(alloc, text, config, event, object, FILTERS, None, &[])
+        let count = filter_count(config.choices);
+        push_tried(alloc, text, config, event, object, count, None, &[])
     } else {
         push_out_rows(text, config, clock, attempt)
     }

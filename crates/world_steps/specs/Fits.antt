@@ -10,7 +10,7 @@ use Rattle.due_model.specs.declared.config.Dependency.{Dependency}
 use Rattle.due_model.specs.declared.config.Object.{Object}
 use Rattle.due_model.specs.declared.event.Event.{Event}
 use Rattle.due_model.specs.declared.event.EventKind.{EventKind}
-use Rattle.due_model.specs.declared.event.EventKind.TheVariants.{Clock, Program, Hard, Downtime, Flapping, Ack}
+use Rattle.due_model.specs.declared.event.EventKind.TheVariants.{Clock, Program, Hard, Downtime, Flapping, Ack, AckRemoved, OwnSwitch}
 use Rattle.due_model.specs.declared.notice.Notice.{Notice}
 use Rattle.due_model.specs.declared.rules.ObjectStatus.{ObjectStatus}
 use Rattle.due_model.specs.declared.zone.Zone.{Zone}
@@ -120,7 +120,9 @@ KindIsProper-prop c (Hard o state) =
     (λ object. IsTrue (is_state_of (is_some object.host) state)) (hlevel props)
 KindIsProper-prop c (Downtime o change) = hlevel props
 KindIsProper-prop c (Flapping o starts) = hlevel props
-KindIsProper-prop c (Ack o sticky) = hlevel props
+KindIsProper-prop c (Ack o ack) = hlevel props
+KindIsProper-prop c (AckRemoved o) = hlevel props
+KindIsProper-prop c (OwnSwitch o on) = hlevel props
 
 IsAccepted-prop : (c : Config) → IsProp (IsAccepted c)
 IsAccepted-prop c = hlevel (props, IsHost-prop)

@@ -19,8 +19,8 @@ pub returns-in_err-config-clause-fault : goal.returns-in_err-config-clause-fault
 returns-in_err-config-clause-fault g c =
     let p = err_from_is_err_and c.from_residual-in_err-config.result c.from_residual-in_err-config.ensures.1 in
     let w = g.W.Write.contents c.args.writer.now in
-    rw (p.1, p.2) (input_failed g.R.Input.can_fail (g.R.Read.remaining c.args.reader) c.in_ok-lines.lines c.in_err-config.field-0.0 w
-    (λ bytes. ReportsFront g.R.Input.can_fail bytes c.args.zone.now w w) c.in_ok-lines.ensures c.in_err-config.ensures.fault)
+    rw (p.1, p.2) (input_failed c.args.choices g.R.Input.can_fail (g.R.Read.remaining c.args.reader) c.in_ok-lines.lines c.in_err-config.field-0.0 w
+    (λ bytes. ReportsFront c.args.choices g.R.Input.can_fail bytes c.args.zone.now w w) c.in_ok-lines.ensures c.in_err-config.ensures.fault)
 
 pub returns-in_err-report-clause-fault : goal.returns-in_err-report-clause-fault
 returns-in_err-report-clause-fault g c =
@@ -29,10 +29,10 @@ returns-in_err-report-clause-fault g c =
 
 pub returns-clause-report : goal.returns-clause-report
 returns-clause-report g c =
-    report_of_input g.R.Input.can_fail _ _ _ _ c.read_objects.new.lines _ c.write.result _ _ c.in_ok-report.ensures.feed c.in_ok-report.ensures.config c.in_ok-report.ensures.zone
+    report_of_input c.args.choices g.R.Input.can_fail _ _ _ _ c.read_objects.new.lines _ c.write.result _ _ c.in_ok-report.ensures.feed c.in_ok-report.ensures.config c.in_ok-report.ensures.zone
     _ _ c.in_ok-lines.ensures c.in_ok-config.ensures.config c.write.ensures.ok
 
 pub returns-clause-fault : goal.returns-clause-fault
 returns-clause-fault g c =
-    fault_of_input g.R.Input.can_fail _ _ _ _ c.read_objects.new.lines _ c.write.result _ _ c.in_ok-report.ensures.feed c.in_ok-report.ensures.config c.in_ok-report.ensures.zone
+    fault_of_input c.args.choices g.R.Input.can_fail _ _ _ _ c.read_objects.new.lines _ c.write.result _ _ c.in_ok-report.ensures.feed c.in_ok-report.ensures.config c.in_ok-report.ensures.zone
     g.W.Sink.can_fail _ _ c.in_ok-lines.ensures c.in_ok-config.ensures.config c.write.ensures.front c.write.ensures.fault

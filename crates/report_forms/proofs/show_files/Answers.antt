@@ -5,12 +5,12 @@ pub returns-clause-report : goal.returns-clause-report
 returns-clause-report g c =
     some_shown (g.O.Read.remaining c.args.objects) _ _
     (λ text known. some_shown (g.R.Read.remaining c.args.feed) _ _
-    (λ bytes h. ok_shown c.tell_files.result _ _ (λ ending told. shows c.args.shown g.R.Input.can_fail text bytes c.args.zone.now ending _ _ told) h) known)
+    (λ bytes h. ok_shown c.tell_files.result _ _ (λ ending told. shows c.args.choices c.args.shown g.R.Input.can_fail text bytes c.args.zone.now ending _ _ told) h) known)
     c.tell_files.ensures.report
 
 pub returns-clause-fault : goal.returns-clause-fault
 returns-clause-fault g c =
     some_shown (g.O.Read.remaining c.args.objects) _ _
     (λ text known. some_shown (g.R.Read.remaining c.args.feed) _ _
-    (λ bytes h. err_shown c.tell_files.result _ _ (λ fault told. fails c.args.shown g.O.Input.can_fail g.R.Input.can_fail text bytes c.args.zone.now fault _ _ told) h) known)
+    (λ bytes h. err_shown c.tell_files.result _ _ (λ fault told. fails c.args.choices c.args.shown g.O.Input.can_fail g.R.Input.can_fail text bytes c.args.zone.now fault _ _ told) h) known)
     c.tell_files.ensures.fault

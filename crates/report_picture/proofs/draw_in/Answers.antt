@@ -21,8 +21,8 @@ pub returns-in_err-config-clause-fault : goal.returns-in_err-config-clause-fault
 returns-in_err-config-clause-fault g c =
     let p = err_from_is_err_and c.from_residual-in_err-config.result c.from_residual-in_err-config.ensures.1 in
     let w = g.W.Write.contents c.args.writer.now in
-    rw (p.1, p.2) (input_failed g.R.Input.can_fail (g.R.Read.remaining c.args.reader) c.in_ok-lines.lines c.in_err-config.field-0.0 w
-    (λ bytes. TellsFront (form_of g.T.Teller.told g.T.Teller.after g.T.Teller.ended) c.args.teller g.R.Input.can_fail bytes c.args.zone.now w w) c.in_ok-lines.ensures c.in_err-config.ensures.fault)
+    rw (p.1, p.2) (input_failed c.args.site.choices g.R.Input.can_fail (g.R.Read.remaining c.args.reader) c.in_ok-lines.lines c.in_err-config.field-0.0 w
+    (λ bytes. TellsFront c.args.site.choices (form_of g.T.Teller.told g.T.Teller.after g.T.Teller.ended) c.args.teller g.R.Input.can_fail bytes c.args.site.zone.now w w) c.in_ok-lines.ensures c.in_err-config.ensures.fault)
 
 pub returns-in_err-drawing-clause-fault : goal.returns-in_err-drawing-clause-fault
 returns-in_err-drawing-clause-fault g c =
@@ -31,12 +31,12 @@ returns-in_err-drawing-clause-fault g c =
 
 pub returns-clause-drawn : goal.returns-clause-drawn
 returns-clause-drawn g c =
-    drawn_of_input (form_of g.T.Teller.told g.T.Teller.after g.T.Teller.ended) c.args.teller _ g.R.Input.can_fail _ _ _ _ c.read_objects.new.lines _ c.write.result _ _ _ _
+    drawn_of_input c.args.site.choices (form_of g.T.Teller.told g.T.Teller.after g.T.Teller.ended) c.args.teller _ g.R.Input.can_fail _ _ _ _ c.read_objects.new.lines _ c.write.result _ _ _ _
     c.in_ok-drawing.ensures.feed c.in_ok-drawing.ensures.config c.in_ok-drawing.ensures.zone c.in_ok-drawing.ensures.teller
     _ _ c.in_ok-lines.ensures c.in_ok-config.ensures.config c.write.ensures.ok
 
 pub returns-clause-fault : goal.returns-clause-fault
 returns-clause-fault g c =
-    fault_of_input (form_of g.T.Teller.told g.T.Teller.after g.T.Teller.ended) c.args.teller _ g.R.Input.can_fail _ _ _ _ c.read_objects.new.lines _ c.write.result _ _
+    fault_of_input c.args.site.choices (form_of g.T.Teller.told g.T.Teller.after g.T.Teller.ended) c.args.teller _ g.R.Input.can_fail _ _ _ _ c.read_objects.new.lines _ c.write.result _ _
     c.in_ok-drawing.ensures.feed c.in_ok-drawing.ensures.config c.in_ok-drawing.ensures.zone c.in_ok-drawing.ensures.teller
     g.W.Sink.can_fail _ _ c.in_ok-lines.ensures c.in_ok-config.ensures.config c.write.ensures.front c.write.ensures.fault

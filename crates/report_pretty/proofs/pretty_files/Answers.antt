@@ -17,7 +17,7 @@ returns-clause-report g c =
     some_shown (g.O.Read.remaining c.args.objects) _ _
     (λ text known. some_shown (g.R.Read.remaining c.args.feed) _ _
     (λ bytes h. IfOk-weaker c.tell_files.result _ _
-    (λ ending told. is_pretty c.in_ok-pretty.pretty c.args.picks c.args.coloured n.picks n.coloured n.widths n.runs g.R.Input.can_fail text bytes c.args.zone.now ending _ _ told) h) known)
+    (λ ending told. is_pretty c.args.choices c.in_ok-pretty.pretty c.args.wanted.picks c.args.wanted.coloured n.picks n.coloured n.widths n.runs g.R.Input.can_fail text bytes c.args.zone.now ending _ _ told) h) known)
     c.tell_files.ensures.report
 
 pub returns-clause-fault : goal.returns-clause-fault
@@ -26,5 +26,5 @@ returns-clause-fault g c =
     some_shown (g.O.Read.remaining c.args.objects) _ _
     (λ text known. some_shown (g.R.Read.remaining c.args.feed) _ _
     (λ bytes h. IfErr-weaker c.tell_files.result _ _
-    (λ fault told. fails c.in_ok-pretty.pretty c.args.picks c.args.coloured n.picks n.coloured n.widths n.runs g.O.Input.can_fail g.R.Input.can_fail text bytes c.args.zone.now fault _ _ told) h) known)
+    (λ fault told. fails c.args.choices c.in_ok-pretty.pretty c.args.wanted.picks c.args.wanted.coloured n.picks n.coloured n.widths n.runs g.O.Input.can_fail g.R.Input.can_fail text bytes c.args.zone.now fault _ _ told) h) known)
     c.tell_files.ensures.fault

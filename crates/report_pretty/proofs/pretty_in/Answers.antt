@@ -16,7 +16,7 @@ returns-clause-report g c =
     let n = c.in_ok-pretty.ensures in
     some_shown (g.R.Read.remaining c.args.reader) _ _
     (λ bytes h. IfOk-weaker c.tell_in.result _ _
-    (λ ending told. is_pretty c.in_ok-pretty.pretty c.args.picks c.args.coloured n.picks n.coloured n.widths n.runs g.R.Input.can_fail (objects_in bytes) (feed_in bytes) c.args.zone.now ending _ _ told) h)
+    (λ ending told. is_pretty c.args.choices c.in_ok-pretty.pretty c.args.wanted.picks c.args.wanted.coloured n.picks n.coloured n.widths n.runs g.R.Input.can_fail (objects_in bytes) (feed_in bytes) c.args.zone.now ending _ _ told) h)
     c.tell_in.ensures.report
 
 pub returns-clause-fault : goal.returns-clause-fault
@@ -24,5 +24,5 @@ returns-clause-fault g c =
     let n = c.in_ok-pretty.ensures in
     some_shown (g.R.Read.remaining c.args.reader) _ _
     (λ bytes h. IfErr-weaker c.tell_in.result _ _
-    (λ fault told. fails c.in_ok-pretty.pretty c.args.picks c.args.coloured n.picks n.coloured n.widths n.runs g.R.Input.can_fail g.R.Input.can_fail (objects_in bytes) (feed_in bytes) c.args.zone.now fault _ _ told) h)
+    (λ fault told. fails c.args.choices c.in_ok-pretty.pretty c.args.wanted.picks c.args.wanted.coloured n.picks n.coloured n.widths n.runs g.R.Input.can_fail g.R.Input.can_fail (objects_in bytes) (feed_in bytes) c.args.zone.now fault _ _ told) h)
     c.tell_in.ensures.fault

@@ -18,12 +18,12 @@ returns-in_err-telling-clause-front g c =
 
 pub returns-clause-report : goal.returns-clause-report
 returns-clause-report g c =
-    telling_of_feed (form_of g.T.Teller.told g.T.Teller.after g.T.Teller.ended) c.args.teller _ g.R.Input.can_fail _ _ _ _ c.in_ok-reader.reader _ c.write.result _ _
+    telling_of_feed c.args.config.now.choices (form_of g.T.Teller.told g.T.Teller.after g.T.Teller.ended) c.args.teller _ g.R.Input.can_fail _ _ _ _ c.in_ok-reader.reader _ c.write.result _ _
     c.in_ok-telling.ensures.feed c.in_ok-telling.ensures.config c.in_ok-telling.ensures.zone c.in_ok-telling.ensures.teller
     _ c.in_ok-reader.ensures c.write.ensures.ok
 
 pub returns-clause-front : goal.returns-clause-front
 returns-clause-front g c =
-    front_of_feed (form_of g.T.Teller.told g.T.Teller.after g.T.Teller.ended) c.args.teller _ g.R.Input.can_fail _ _ _ _ c.in_ok-reader.reader _ c.write.result _ _
+    front_of_feed c.args.config.now.choices (form_of g.T.Teller.told g.T.Teller.after g.T.Teller.ended) c.args.teller _ g.R.Input.can_fail _ _ _ _ c.in_ok-reader.reader _ c.write.result _ _
     c.in_ok-telling.ensures.feed c.in_ok-telling.ensures.config c.in_ok-telling.ensures.zone c.in_ok-telling.ensures.teller
     _ c.in_ok-reader.ensures c.write.ensures.front

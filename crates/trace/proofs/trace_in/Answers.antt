@@ -15,15 +15,15 @@ pub returns-in_err-config-clause-fault : goal.returns-in_err-config-clause-fault
 returns-in_err-config-clause-fault g c =
     let p = err_from_is_err_and c.from_residual-in_err-config.result c.from_residual-in_err-config.ensures.1 in
     let w = g.W.Write.contents c.args.writer.now in
-    rw (p.1, p.2) (input_failed g.R.Input.can_fail (g.R.Read.remaining c.args.reader) c.in_ok-lines.lines c.in_err-config.field-0.0 w
-    (λ bytes. TracesFrontIn g.R.Input.can_fail c.args.zone.now c.args.settings c.args.standbys bytes w w) c.in_ok-lines.ensures c.in_err-config.ensures.fault)
+    rw (p.1, p.2) (input_failed c.args.choices g.R.Input.can_fail (g.R.Read.remaining c.args.reader) c.in_ok-lines.lines c.in_err-config.field-0.0 w
+    (λ bytes. TracesFrontIn c.args.choices g.R.Input.can_fail c.args.zone.now c.args.settings c.args.standbys bytes w w) c.in_ok-lines.ensures c.in_err-config.ensures.fault)
 
 pub returns-clause-traces : goal.returns-clause-traces
 returns-clause-traces g c =
-    traces_of_input g.R.Input.can_fail c.in_ok-config.config c.args.zone.now c.args.settings c.args.standbys (g.R.Read.remaining c.args.reader) _ c.in_ok-lines.lines c.trace_feed.result _ _
+    traces_of_input c.args.choices g.R.Input.can_fail c.in_ok-config.config c.args.zone.now c.args.settings c.args.standbys (g.R.Read.remaining c.args.reader) _ c.in_ok-lines.lines c.trace_feed.result _ _
     c.in_ok-lines.ensures c.in_ok-config.ensures.config c.trace_feed.ensures.traces
 
 pub returns-clause-fault : goal.returns-clause-fault
 returns-clause-fault g c =
-    fault_of_input g.R.Input.can_fail c.in_ok-config.config c.args.zone.now c.args.settings c.args.standbys (g.R.Read.remaining c.args.reader) _ c.in_ok-lines.lines c.trace_feed.result _ _
+    fault_of_input c.args.choices g.R.Input.can_fail c.in_ok-config.config c.args.zone.now c.args.settings c.args.standbys (g.R.Read.remaining c.args.reader) _ c.in_ok-lines.lines c.trace_feed.result _ _
     c.in_ok-lines.ensures c.in_ok-config.ensures.config g.W.Sink.can_fail c.trace_feed.ensures.front c.trace_feed.ensures.fault

@@ -11,11 +11,11 @@ returns-clause-config g c =
     let known = g.R.Read.remaining c.args.reader in
     let rest = to_come c.read_config.new.lines in
     IfOk-weaker c.read_config.result _ _
-    (λ config gives. file_of config known rest (of_input known c.in_ok-lines.lines (λ k. GivesText None config k rest) c.in_ok-lines.ensures gives))
+    (λ config gives. file_of c.args.choices config known rest (of_input known c.in_ok-lines.lines (λ k. GivesText None c.args.choices config k rest) c.in_ok-lines.ensures gives))
     c.read_config.ensures.config
 
 pub returns-clause-fault : goal.returns-clause-fault
 returns-clause-fault g c =
     IfErr-weaker c.read_config.result _ _
-    (λ fault fails. of_input (g.R.Read.remaining c.args.reader) c.in_ok-lines.lines (λ k. TextFails g.R.Input.can_fail None fault k) c.in_ok-lines.ensures fails)
+    (λ fault fails. of_input (g.R.Read.remaining c.args.reader) c.in_ok-lines.lines (λ k. TextFails c.args.choices g.R.Input.can_fail None fault k) c.in_ok-lines.ensures fails)
     c.read_config.ensures.fault

@@ -2,7 +2,7 @@ use Rattle.std.proofs.Common.{ap, ap₂, ◌≡◌, ◌∙◌, codes, true}
 use Rattle.std.proofs.lemmas.Result.{IfOk-weaker}
 use Rattle.clap.specs.Simple.{app_of_fields}
 use Rattle.clap.specs.Words.{Rule, app_of, new_app, rule_of, with_rule}
-use Rattle.command_line.specs.Words.{flag_option, text_option, with_zone}
+use Rattle.command_line.specs.Words.{flag_option, text_option, with_site}
 use Rattle.command_line.proofs.RuleLemmas.{is_global}
 use Rattle.command_line.proofs.diff.diff_command.Goals as goal
 
@@ -21,4 +21,4 @@ returns c =
     c.in_ok-arg-2.ensures.shape changed_local ∙ ap₂ with_rule one changed in
     let three : app_of c.in_ok-command.command ≡ with_rule (with_rule (with_rule (new_app (codes "diff")) (record (text_option (codes "objects")) { required = true })) (record (text_option (codes "with")) { required = true })) (flag_option (codes "json")) =
     c.in_ok-command.ensures.shape c.flag_option-json.ensures.local ∙ ap₂ with_rule two c.flag_option-json.ensures.rule in
-    record { words = IfOk-weaker c.with_zone.result _ _ (λ r h. h ∙ ap with_zone three) c.with_zone.ensures.words }
+    record { words = IfOk-weaker c.with_site.result _ _ (λ r h. h ∙ ap with_site three) c.with_site.ensures.words }

@@ -2,7 +2,7 @@ use Rattle.std.proofs.Common.{ap, ap₂, ◌≡◌, ◌∙◌, codes}
 use Rattle.std.proofs.lemmas.Result.{IfOk-weaker}
 use Rattle.clap.specs.Simple.{app_of_fields}
 use Rattle.clap.specs.Words.{app_of, new_app, with_rule}
-use Rattle.command_line.specs.Words.{with_shown, with_zone}
+use Rattle.command_line.specs.Words.{with_shown, with_site}
 use Rattle.command_line.proofs.replay.replay_command.Goals as goal
 
 pub returns : goal.returns
@@ -11,4 +11,4 @@ returns c =
     let added = c.in_ok-command.ensures.shape c.text_option-objects.ensures.local ∙ ap₂ with_rule bare c.text_option-objects.ensures.rule in
     let shown = c.in_ok-with_shown.ensures.words ∙ ap with_shown added in
     let drawn = c.in_ok-with_shown-2.ensures.shape c.text_option-picture.ensures.local ∙ ap₂ with_rule shown c.text_option-picture.ensures.rule in
-    record { words = IfOk-weaker c.with_zone.result _ _ (λ r h. h ∙ ap with_zone drawn) c.with_zone.ensures.words }
+    record { words = IfOk-weaker c.with_site.result _ _ (λ r h. h ∙ ap with_site drawn) c.with_site.ensures.words }

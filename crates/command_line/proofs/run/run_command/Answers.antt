@@ -2,7 +2,7 @@ use Rattle.std.proofs.Common.{ap, ap₂, ◌≡◌, ◌∙◌, codes, true}
 use Rattle.std.proofs.lemmas.Result.{IfOk-weaker}
 use Rattle.clap.specs.Simple.{app_of_fields}
 use Rattle.clap.specs.Words.{Rule, app_of, new_app, rule_of, with_rule}
-use Rattle.command_line.specs.Words.{bare_number_option, flag_option, number_option, text_option, with_feed_options, with_log_options, with_try_options, with_zone}
+use Rattle.command_line.specs.Words.{bare_number_option, flag_option, number_option, text_option, with_feed_options, with_log_options, with_try_options, with_site}
 use Rattle.command_line.specs.State.{with_state_options}
 use Rattle.command_line.proofs.RuleLemmas.{is_global}
 use Rattle.command_line.proofs.run.run_command.Goals as goal
@@ -31,6 +31,6 @@ returns c =
     c.in_ok-with_feed.ensures.words ∙ ap with_feed_options quiet in
     let kept : app_of c.in_ok-with_state.with_state ≡ with_state_options (with_feed_options (with_rule (with_log_options (with_rule (with_try_options (with_rule (with_rule (with_rule (new_app (codes "run")) (record (text_option (codes "objects")) { required = true })) (number_option (codes "deciders") (codes "2") 1 8)) (number_option (codes "queue") (codes "64") 1 1024))) (bare_number_option (codes "ahead") 0 4294967295))) (flag_option (codes "quiet")))) =
     c.in_ok-with_state.ensures.words ∙ ap with_state_options fed in
-    let zoned : app_of c.in_ok-with_options.with_options ≡ with_zone (with_state_options (with_feed_options (with_rule (with_log_options (with_rule (with_try_options (with_rule (with_rule (with_rule (new_app (codes "run")) (record (text_option (codes "objects")) { required = true })) (number_option (codes "deciders") (codes "2") 1 8)) (number_option (codes "queue") (codes "64") 1 1024))) (bare_number_option (codes "ahead") 0 4294967295))) (flag_option (codes "quiet"))))) =
-    c.in_ok-with_options.ensures.words ∙ ap with_zone kept in
+    let zoned : app_of c.in_ok-with_options.with_options ≡ with_site (with_state_options (with_feed_options (with_rule (with_log_options (with_rule (with_try_options (with_rule (with_rule (with_rule (new_app (codes "run")) (record (text_option (codes "objects")) { required = true })) (number_option (codes "deciders") (codes "2") 1 8)) (number_option (codes "queue") (codes "64") 1 1024))) (bare_number_option (codes "ahead") 0 4294967295))) (flag_option (codes "quiet"))))) =
+    c.in_ok-with_options.ensures.words ∙ ap with_site kept in
     record { words = IfOk-weaker c.arg-6.result _ _ (λ r h. h.shape c.channel_words.ensures.local ∙ ap₂ with_rule zoned c.channel_words.ensures.rule) c.arg-6.ensures }

@@ -2,7 +2,7 @@ use Rattle.std.proofs.Common.{ap, ap₂, ◌≡◌, ◌∙◌, codes}
 use Rattle.std.proofs.lemmas.Result.{IfOk-weaker}
 use Rattle.clap.specs.Simple.{app_of_fields}
 use Rattle.clap.specs.Words.{app_of, new_app, with_rule}
-use Rattle.command_line.specs.Words.{number_option, with_lane_options, with_zone}
+use Rattle.command_line.specs.Words.{number_option, with_lane_options, with_site}
 use Rattle.command_line.proofs.trace.trace_command.Goals as goal
 
 pub returns : goal.returns
@@ -14,4 +14,4 @@ returns c =
     c.in_ok-command.ensures.shape c.standbys_option.ensures.local ∙ ap₂ with_rule one c.standbys_option.ensures.rule in
     let laned : app_of c.in_ok-with_lanes.with_lanes ≡ with_lane_options (with_rule (with_rule (new_app (codes "trace")) (number_option (codes "deciders") (codes "1") 1 8)) (number_option (codes "standbys") (codes "0") 0 7)) =
     c.in_ok-with_lanes.ensures.words ∙ ap with_lane_options two in
-    record { words = IfOk-weaker c.with_zone.result _ _ (λ r h. h ∙ ap with_zone laned) c.with_zone.ensures.words }
+    record { words = IfOk-weaker c.with_site.result _ _ (λ r h. h ∙ ap with_site laned) c.with_site.ensures.words }

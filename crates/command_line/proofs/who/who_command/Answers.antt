@@ -2,7 +2,7 @@ use Rattle.std.proofs.Common.{ap, ap₂, ◌≡◌, ◌∙◌, codes, true}
 use Rattle.std.proofs.lemmas.Result.{IfOk-weaker}
 use Rattle.clap.specs.Simple.{app_of_fields}
 use Rattle.clap.specs.Words.{Rule, app_of, new_app, rule_of, with_rule}
-use Rattle.command_line.specs.Words.{text_option, with_supposed, with_zone}
+use Rattle.command_line.specs.Words.{text_option, with_supposed, with_site}
 use Rattle.command_line.proofs.RuleLemmas.{is_global}
 use Rattle.command_line.proofs.who.who_command.Goals as goal
 
@@ -15,4 +15,4 @@ returns c =
     let added : app_of c.in_ok-command.command ≡ with_rule (new_app (codes "who")) (record (text_option (codes "objects")) { required = true }) =
     c.in_ok-command.ensures.shape local ∙ ap₂ with_rule bare objects in
     let supposed = c.in_ok-with_supposed.ensures.words ∙ ap with_supposed added in
-    record { words = IfOk-weaker c.with_zone.result _ _ (λ r h. h ∙ ap with_zone supposed) c.with_zone.ensures.words }
+    record { words = IfOk-weaker c.with_site.result _ _ (λ r h. h ∙ ap with_site supposed) c.with_site.ensures.words }

@@ -2,7 +2,7 @@ use Rattle.std.proofs.Common.{ap, ap₂, ◌≡◌, ◌∙◌, codes, true}
 use Rattle.std.proofs.lemmas.Result.{IfOk-weaker}
 use Rattle.clap.specs.Simple.{app_of_fields}
 use Rattle.clap.specs.Words.{Rule, app_of, new_app, rule_of, with_rule}
-use Rattle.command_line.specs.Options.{text_option, with_zone}
+use Rattle.command_line.specs.Options.{text_option, with_site}
 use Rattle.command_line.specs.Why.{asked_object, with_span}
 use Rattle.command_line.proofs.RuleLemmas.{is_global}
 use Rattle.command_line.proofs.why.why_command.Goals as goal
@@ -18,4 +18,4 @@ returns c =
     let named : app_of c.in_ok-command.command ≡ with_rule (with_rule (new_app (codes "why")) (record (text_option (codes "objects")) { required = true })) asked_object =
     c.in_ok-command.ensures.shape c.asked_object.ensures.local ∙ ap₂ with_rule added c.asked_object.ensures.rule in
     let spanned = c.in_ok-with_span.ensures.words ∙ ap with_span named in
-    record { words = IfOk-weaker c.with_zone.result _ _ (λ r h. h ∙ ap with_zone spanned) c.with_zone.ensures.words }
+    record { words = IfOk-weaker c.with_site.result _ _ (λ r h. h ∙ ap with_site spanned) c.with_site.ensures.words }

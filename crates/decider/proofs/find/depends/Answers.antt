@@ -1,7 +1,7 @@
 use Rattle.std.proofs.Common.{sym, ap, ◌∙◌}
 use Rattle.due_model.specs.declared.state.State.{State}
-use Rattle.due_model.specs.Dependencies.{dependency_fails}
 use Rattle.dependency.specs.Entry.{state_of}
+use Rattle.decider.specs.Found.{depends_by}
 use Rattle.decider.specs.Statuses.{StatusLists, hard_by, with_state}
 use Rattle.decider.proofs.FoundLaws.{depends_with, depends_without, hard_named}
 use Rattle.decider.proofs.StatusLaws.{named_within, put_back}
@@ -17,20 +17,20 @@ returns-in-Some-clause-statuses c =
     ∙ put_back s p c.in-Some.state
 
 pub returns-in-Some-clause-fails : goal.returns-in-Some-clause-fails
-returns-in-Some-clause-fails c = λ e past is.
+returns-in-Some-clause-fails c = λ e past settings is at.
     let config = c.args.reading.now.rules.config.now in
     let zone = c.args.reading.now.rules.zone.now in
     let t = c.args.reading.now.context.moment in
     let o = c.args.object.0 in
     let given = sym (ap hard_by is.says) ∙ sym c.hard_by.ensures ∙ c.in-Some.is in
-    c.depends_now-fails.ensures.fails
-    ∙ ap (λ (x : StatusLists). dependency_fails config zone (state_of x.states) t o) c.replace_state-before.ensures.after
-    ∙ depends_with config zone e past c.args.statuses.now is.known o t is.at c.in-Some.named c.in-Some.state given
+    c.depends_now-fails.ensures.fails settings at
+    ∙ ap (λ (x : StatusLists). depends_by config zone (state_of x.states) t o settings.host) c.replace_state-before.ensures.after
+    ∙ depends_with config zone e past c.args.statuses.now is.known o t settings.host is.at c.in-Some.named c.in-Some.state given
     (named_within config e.kind is.proper.kind c.in-Some.named (hard_named e.kind c.in-Some.named c.in-Some.state given))
 
 pub returns-in-None-clause-fails : goal.returns-in-None-clause-fails
-returns-in-None-clause-fails c = λ e past is.
+returns-in-None-clause-fails c = λ e past settings is at.
     let config = c.args.reading.now.rules.config.now in
-    c.depends_now.ensures.fails
-    ∙ depends_without config c.args.reading.now.rules.zone.now e past c.args.statuses.now is.known c.args.object.0 c.args.reading.now.context.moment is.at
+    c.depends_now.ensures.fails settings at
+    ∙ depends_without config c.args.reading.now.rules.zone.now e past c.args.statuses.now is.known c.args.object.0 c.args.reading.now.context.moment settings.host is.at
     (sym (ap hard_by is.says) ∙ sym c.hard_by.ensures ∙ c.in-None.is)

@@ -50,7 +50,7 @@ loop-place-preserved g c =
     let within : k < length c.loop-place.channels.items = search rules in
     let failed : c.tend_next-next.result.1 ≡ Failed = search rules in
     let worker = did.worker in (
-      (worker.0, worker.1 ∙ ap (λ j. Worker (picked_of c.tend_next-next.result.0) c.args.queue.now.deciders j) (ap joined_seen inv.0.1)),
+      (worker.0, worker.1 ∙ ap (λ j. Worker (picked_of c.tend_next-next.result.0) c.args.setup.queue.now.deciders j) (ap joined_seen inv.0.1)),
       did.ends,
       did.serving,
       (let order : held c.tend_next-next.new.lane ≡ notices (picked_of c.tend_next-next.result.0) = search rules in order),

@@ -23,7 +23,7 @@ returns-clause-own g c = λ fresh.
     inl (
       c.tend-served.ensures.ended ∙ ap (λ (l : Record). l.ended) began,
       ap (λ (a : Account). a.taken) c.close-2.ensures.account ∙ c.tend-served.ensures.equal (account old).taken start,
-      takes_all g.C.Channel.offered g.C.Channel.follows c.args.tries c.args.config.now c.end_record.new.lane c.tend-served.new.lane (c.tend-served.result.1 ≡ Failed)
+      takes_all g.C.Channel.offered g.C.Channel.follows c.args.setup.tries c.args.setup.config.now c.end_record.new.lane c.tend-served.new.lane (c.tend-served.result.1 ≡ Failed)
           old c.tend-served.new.channel c.close-2.new.self empty c.tend-served.ensures.offered c.close-2.ensures.offered,
     )
 
@@ -31,5 +31,5 @@ pub returns-clause-tried : goal.returns-clause-tried
 returns-clause-tried g c = λ failed.
     let account = g.C.Channel.account in
     let old = c.args.channel.now in
-    subst (λ (a : Account). HasFailed c.args.tries c.args.config.now (account old).limit (account old).failures a.failures c.tend-served.new.lane.hand)
+    subst (λ (a : Account). HasFailed c.args.setup.tries c.args.setup.config.now (account old).limit (account old).failures a.failures c.tend-served.new.lane.hand)
     (sym c.close-2.ensures.account) (c.tend-served.ensures.failed failed)

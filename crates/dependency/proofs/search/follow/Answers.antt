@@ -3,7 +3,7 @@ use Rattle.std.specs.Prelude.{None}
 use Rattle.std.proofs.lemmas.List.Elements.{All-get_or}
 use Rattle.due_model.specs.declared.config.Dependency.{Dependency}
 use Rattle.due_model.specs.Accepted.{DependencyFits}
-use Rattle.due_model.specs.Dependencies.{has_state}
+use Rattle.due_model.specs.Dependencies.{fails_at}
 use Rattle.due_model.specs.Periods.{in_period}
 use Rattle.dependency.specs.Entry.{fails_by, state_of}
 use Rattle.dependency.proofs.WalkLemmas.{Gains-more, Gains-none, any_none-more, fits-own, masters_of-invalid, masters_of-valid}
@@ -43,13 +43,13 @@ loop-entry-preserved c =
           record {
             same = rw w.reach-is w.look.ensures.nodes ∙ c.loop-entry.invariant.same;
             gains = gained (rw (masters_of-valid config zone t entry valid, w.reach-is) w.look.ensures.gains);
-            none = passed (ap (λ b. b && has_state entry.states (states entry.master.0)) valid ∙ sym w.if-look.ensures.fails);
+            none = passed (ap (λ b. b && fails_at config.choices.dep_pending entry.states (states entry.master.0)) valid ∙ sym w.if-look.ensures.fails);
           }
       | else-is_in_period-via-else-is_in_period w ↦
           let invalid : in_period config zone entry.period t ≡ false = sym (w.if-is_in_period.ensures config c.requires.compiled) in
           record {
             same = rw w.reach-is c.loop-entry.invariant.same;
             gains = gained (rw (masters_of-invalid config zone t entry invalid, w.reach-is) (Gains-none c.loop-entry.reach.found));
-            none = passed (ap (λ b. b && has_state entry.states (states entry.master.0)) invalid);
+            none = passed (ap (λ b. b && fails_at config.choices.dep_pending entry.states (states entry.master.0)) invalid);
           }
     ]

@@ -15,6 +15,7 @@ returns-clause-object x = record {
   downtime_start = refl;
   downtime_end = refl;
   downtime_cancelled = refl;
+  acknowledgement = refl;
 }
 
 contact_order : ContactFiltersStandInOrder
@@ -25,6 +26,7 @@ contact_order kind.FlappingStop = refl
 contact_order kind.DowntimeStart = refl
 contact_order kind.DowntimeEnd = refl
 contact_order kind.DowntimeCancelled = refl
+contact_order kind.Acknowledgement = refl
 
 pub returns-clause-contact : goal.returns-clause-contact
 returns-clause-contact x = contact_order

@@ -43,3 +43,5 @@ returns-clause-retries x = record {
     minute c zone object began last t filter.ContactDisabled h = refl
     minute c zone object began last t filter.ContactOptions h = refl
     minute c zone object began last t filter.ContactPeriod h = refl
+    minute c zone object began last t filter.HostDown h = refl
+    minute c zone object began last t filter.ContactNotTold h = refl

@@ -7,7 +7,7 @@ use Rattle.due_laws.proofs.EachNotice.{due_each}
 use Rattle.due_laws.proofs.laws.follow_in_problem.Goals as goal
 
 pub returns-clause-numbers : goal.returns-clause-numbers
-returns-clause-numbers x c zone o object past = numbers_go_up (last_problem c zone o object past) (problem_follows c zone o object past)
+returns-clause-numbers x c zone o object past = numbers_go_up c object (last_problem c zone o object past) (problem_follows c zone o object past)
 
 pub returns-clause-notices : goal.returns-clause-notices
 returns-clause-notices x c zone o l object past known =
@@ -17,6 +17,6 @@ returns-clause-notices x c zone o l object past known =
     rw same (due_for_numbered c zone o other l past))
 
 pub returns-clause-gaps : goal.returns-clause-gaps
-returns-clause-gaps x c zone o object past i earlier later is_later is_earlier same =
+returns-clause-gaps x c zone o object own past i earlier later is_later is_earlier same =
     let notices = filter_map notice_of (last_problem c zone o object past) in
-    gaps_are_kept (last_problem c zone o object past) (problem_follows c zone o object past) i earlier later is_later (ap (slice_get notices) (sym (add-one i)) ∙ is_earlier) same
+    gaps_are_kept c object own (last_problem c zone o object past) (problem_follows c zone o object past) i earlier later is_later (ap (slice_get notices) (sym (add-one i)) ∙ is_earlier) same

@@ -34,3 +34,19 @@ returns-clause-acknowledged c = (record { due = refl; suppressed = refl }, recor
 pub returns-clause-acknowledged_up : goal.returns-clause-acknowledged_up
 unfolding hist
 returns-clause-acknowledged_up c = record { due = refl; suppressed = refl }
+
+pub returns-clause-taken_back : goal.returns-clause-taken_back
+unfolding hist
+returns-clause-taken_back c = record { due = refl; suppressed = refl }
+
+pub returns-clause-told_of_acknowledgements : goal.returns-clause-told_of_acknowledgements
+unfolding hist
+returns-clause-told_of_acknowledgements c = record { due = refl; suppressed = refl }
+
+pub returns-clause-switched_off : goal.returns-clause-switched_off
+unfolding hist
+returns-clause-switched_off c = record { due = refl; suppressed = refl }
+
+pub returns-clause-volatile_service : goal.returns-clause-volatile_service
+unfolding hist
+returns-clause-volatile_service c = record { due = refl; suppressed = refl }

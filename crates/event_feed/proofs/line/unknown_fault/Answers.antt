@@ -1,7 +1,10 @@
-use Rattle.std.proofs.Common.{ap}
+use Rattle.std.proofs.Common.{◌≡◌, ◌∙◌, ◌∷◌, ap, sym}
 use Rattle.std.specs.Option.{option_copied}
-use Rattle.event_feed.proofs.WordLemmas.{unknown_many}
+use Rattle.event_feed.specs.Line.{unknown_fault, fields, fields_after}
 use Rattle.event_feed.proofs.line.unknown_fault.Goals as goal
 
 pub returns-in_default-Some : goal.returns-in_default-Some
-returns-in_default-Some c = unknown_many c.args.arguments.now _ _ _ c.split_field.ensures (ap option_copied c.in_default-Some.is-1)
+returns-in_default-Some c =
+    let parts : fields c.args.arguments.now ≡ c.split_field.result.0.now ∷ fields c.in_default-Some.more.now =
+    c.split_field.ensures ∙ ap (λ rest. c.split_field.result.0.now ∷ fields_after (option_copied rest)) c.in_default-Some.is-1 in
+    c.unknown_fault_after.ensures c.split_field.result.0.now ∙ sym (ap (λ all. unknown_fault c.args.words all) parts)

@@ -10,11 +10,11 @@ contact_at-requires-clause-name c =
 
 pub loop-number-preserved : goal.loop-number-preserved
 loop-number-preserved c =
-    contacts-more c.args.templates.now c.args.commands.now.blocks c.args.lanes.now c.args.contacts.now c.places-place-items.result.now c.loop-number.number c.loop-number.made.items _ c.in_ok-contact.contact
+    contacts-more c.args.daemons c.args.templates.now c.args.commands.now.blocks c.args.lanes.now c.args.contacts.now c.places-place-items.result.now c.loop-number.number c.loop-number.made.items _ c.in_ok-contact.contact
     c.requires.contacts (ap (λ (o : ObjectsOf). o.blocks) c.requires.commands) c.places-place-items.ensures.places c.loop-number-test.true c.in_ok-push.ensures.items
     c.loop-number.invariant c.in_ok-contact.ensures
 
 pub returns : goal.returns
 returns c =
-    contacts-all c.args.templates.now c.args.lanes.now c.args.contacts.now c.places-place-items.result.now c.loop-number.number c.loop-number.made.items
+    contacts-all c.args.daemons c.args.templates.now c.args.lanes.now c.args.contacts.now c.places-place-items.result.now c.loop-number.number c.loop-number.made.items
     c.requires.contacts c.places-place-items.ensures.places c.loop-number-test.false c.loop-number.invariant

@@ -7,4 +7,4 @@ use Rattle.object_reader.specs.declared.block.BlockKind.TheVariants.{Contact}
 
 -- The contacts so far.
 abbrev pub invariant-loop-number : goal.invariant-loop-number
-invariant-loop-number l = AllZip (IsContactOf l.templates l.lanes) (take l.number (objects_in l.templates Contact)) l.made.items
+invariant-loop-number l = AllZip (IsContactOf l.daemons l.templates l.lanes) (take l.number (objects_in l.templates Contact)) l.made.items

@@ -11,11 +11,19 @@ returns-then-not-is_problem c = λ settings e past at of is fits.
     c.fit_on.ensures.outcomes c.args.rules.now.config.now c.args.rules.now.zone.now c.args.object.0 settings e past c.args.book fits
     (ap is_of_problem_attempt (sym is) ∙ of_no_problem c.args.kind c.args.outcome none of)
 
-pub returns-in-Sent : goal.returns-in-Sent
-returns-in-Sent c = λ settings e past at of is fits.
+pub returns-then-reach : goal.returns-then-reach
+returns-then-reach c = λ settings e past at of is fits.
     let problem = sym c.is_problem.ensures ∙ c.if-not-is_problem.false in
-    c.went_out.ensures.fits c.args.rules.now.config.now c.args.rules.now.zone.now c.args.object.0 settings e past fits _ _
-    (sym is ∙ sent_is c.args.kind c.in-Sent.kind c.args.outcome c.in-Sent.state c.in-Sent.number c.in-Sent.moment c.in-Sent.gap c.in-Sent.is problem of)
+    c.went_out.ensures.fits c.args.rules.now.config.now c.args.rules.now.zone.now c.args.object.0 settings e past fits _ _ _
+    (sym is ∙ sent_is c.args.kind c.in-Sent.kind c.args.outcome c.in-Sent.state c.in-Sent.number c.in-Sent.moment c.in-Sent.gap c.in-Sent.reach c.in-Sent.is problem of)
+    c.if-reach.true
+
+pub returns-else-reach : goal.returns-else-reach
+returns-else-reach c = λ settings e past at of is fits.
+    let problem = sym c.is_problem.ensures ∙ c.if-not-is_problem.false in
+    c.unheard.ensures.fits c.args.rules.now.config.now c.args.rules.now.zone.now c.args.object.0 settings e past fits _ _ _ _
+    (sym is ∙ sent_is c.args.kind c.in-Sent.kind c.args.outcome c.in-Sent.state c.in-Sent.number c.in-Sent.moment c.in-Sent.gap c.in-Sent.reach c.in-Sent.is problem of)
+    c.if-reach.false
 
 pub returns-in-Suppressed : goal.returns-in-Suppressed
 returns-in-Suppressed c = λ settings e past at of is fits.

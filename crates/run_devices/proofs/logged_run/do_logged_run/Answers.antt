@@ -6,7 +6,7 @@ use Rattle.run_devices.proofs.logged_run.do_logged_run.Goals as goal
 
 pub returns-in_err-done-clause-fault : goal.returns-in_err-done-clause-fault
 returns-in_err-done-clause-fault g c =
-    let fails = command_fails _ c.in_err-done.field-0.0 c.in_ok-config.config c.in_ok-config.lanes.items c.in_ok-config.ensures.right.right c.in_err-done.ensures.fault in
+    let fails = command_fails _ _ c.in_err-done.field-0.0 c.in_ok-config.config c.in_ok-config.lanes.items c.in_ok-config.ensures.right.right c.in_err-done.ensures.fault in
     search rules
 
 pub returns-clause-ok : goal.returns-clause-ok

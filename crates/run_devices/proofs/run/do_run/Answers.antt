@@ -15,17 +15,17 @@ run_through-requires-clause-few g c κs within =
 
 pub returns-in_err-done-clause-fault : goal.returns-in_err-done-clause-fault
 returns-in_err-done-clause-fault g c =
-    let fails = command_fails _ c.in_err-done.field-0.0 c.in_ok-config.config c.in_ok-config.lanes.items c.in_ok-config.ensures.right.right c.in_err-done.ensures.fault in
+    let fails = command_fails _ _ c.in_err-done.field-0.0 c.in_ok-config.config c.in_ok-config.lanes.items c.in_ok-config.ensures.right.right c.in_err-done.ensures.fault in
     search rules
 
 pub returns-in_err-metrics-clause-fault : goal.returns-in_err-metrics-clause-fault
 returns-in_err-metrics-clause-fault g c =
-    let fails = fails_without_memory _ c.in_ok-config.config c.in_ok-config.lanes.items c.in_ok-config.ensures.right.right in
+    let fails = fails_without_memory _ _ c.in_ok-config.config c.in_ok-config.lanes.items c.in_ok-config.ensures.right.right in
     search rules
 
 pub returns-in_err-watched-clause-fault : goal.returns-in_err-watched-clause-fault
 returns-in_err-watched-clause-fault g c =
-    let fails = fails_without_memory _ c.in_ok-config.config c.in_ok-config.lanes.items c.in_ok-config.ensures.right.right in
+    let fails = fails_without_memory _ _ c.in_ok-config.config c.in_ok-config.lanes.items c.in_ok-config.ensures.right.right in
     search rules
 
 pub returns-clause-ok : goal.returns-clause-ok

@@ -22,6 +22,7 @@ returns-clause-right c =
         words = c.in_ok-words.words.items;
         read = subst (λ texts. AreRead (map (λ text. text.now) texts) c.in_ok-words.words.items) c.texts_of.ensures c.in_ok-words.ensures.ok;
         accepted = checks.accepted;
+        by = checks.by;
         lanes_are = subst (λ words. AreLanesOf c.in_ok-config.config (names_of words) c.in_ok-config.lanes.items) c.deref.ensures.value checks.lanes_are;
       };
       each = numbered_asked 0 c.in_ok-opened.opened.items c.in_ok-words.words.items

@@ -16,16 +16,16 @@ pub returns-in_err-kept-clause-fault : goal.returns-in_err-kept-clause-fault
 returns-in_err-kept-clause-fault c =
     let checks = c.in_ok-config.ensures.checked in
     let read = subst (λ texts. AreRead (map (λ text. text.now) texts) c.in_ok-read.read.items) c.texts_of.ensures c.in_ok-read.ensures.ok in
-    let right = are_right _ c.in_ok-read.read.items _ c.in_ok-config.config c.in_ok-config.lanes.items read checks.accepted c.deref.ensures.value checks.lanes_are in
-    let fails = right_fails _ c.in_err-kept.field-0.0 c.in_ok-config.config c.in_ok-config.lanes.items right c.in_err-kept.ensures.fault in
+    let right = are_right _ _ c.in_ok-read.read.items _ c.in_ok-config.config c.in_ok-config.lanes.items read checks.accepted checks.by c.deref.ensures.value checks.lanes_are in
+    let fails = right_fails _ _ c.in_err-kept.field-0.0 c.in_ok-config.config c.in_ok-config.lanes.items right c.in_err-kept.ensures.fault in
     search rules
 
 pub returns-in_err-unchanged-clause-fault : goal.returns-in_err-unchanged-clause-fault
 returns-in_err-unchanged-clause-fault c =
     let checks = c.in_ok-config.ensures.checked in
     let read = subst (λ texts. AreRead (map (λ text. text.now) texts) c.in_ok-read.read.items) c.texts_of.ensures c.in_ok-read.ensures.ok in
-    let right = are_right _ c.in_ok-read.read.items _ c.in_ok-config.config c.in_ok-config.lanes.items read checks.accepted c.deref.ensures.value checks.lanes_are in
-    let fails = right_fails _ c.in_err-unchanged.field-0.0 c.in_ok-config.config c.in_ok-config.lanes.items right c.in_err-unchanged.ensures.fault in
+    let right = are_right _ _ c.in_ok-read.read.items _ c.in_ok-config.config c.in_ok-config.lanes.items read checks.accepted checks.by c.deref.ensures.value checks.lanes_are in
+    let fails = right_fails _ _ c.in_err-unchanged.field-0.0 c.in_ok-config.config c.in_ok-config.lanes.items right c.in_err-unchanged.ensures.fault in
     search rules
 
 pub returns-in_err-opened-clause-fault : goal.returns-in_err-opened-clause-fault
@@ -36,7 +36,7 @@ returns-clause-right c =
     let checks = c.in_ok-config.ensures.checked in
     let read = subst (λ texts. AreRead (map (λ text. text.now) texts) c.in_ok-read.read.items) c.texts_of.ensures c.in_ok-read.ensures.ok in
     opened_by
-    (are_opened _ c.in_ok-read.read.items _ c.in_ok-config.config c.in_ok-config.lanes.items _ read checks.accepted c.deref.ensures.value checks.lanes_are
+    (are_opened _ _ c.in_ok-read.read.items _ c.in_ok-config.config c.in_ok-config.lanes.items _ read checks.accepted checks.by c.deref.ensures.value checks.lanes_are
     (numbered_asked 0 c.in_ok-opened.opened.items c.in_ok-read.read.items
     (subst (λ words. map opened c.in_ok-opened.opened.items ≡ map (asked 0) words) c.deref-2.ensures.value c.in_ok-opened.ensures.opened)))
     c.in_ok-config-2.ensures.ok

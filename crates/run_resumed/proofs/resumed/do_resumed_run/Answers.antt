@@ -11,17 +11,17 @@ resume-requires-clause-few g c κs within = c.in_ok-ready.ensures.right.right.la
 
 pub returns-in_err-done-clause-fault : goal.returns-in_err-done-clause-fault
 returns-in_err-done-clause-fault g c =
-    let fails = right_fails _ c.in_err-done.field-0.0 (arc_value c.in_ok-ready.ready.config) c.in_ok-ready.ready.lanes.items c.in_ok-ready.ensures.right.right c.in_err-done.ensures.fault in
+    let fails = right_fails _ _ c.in_err-done.field-0.0 (arc_value c.in_ok-ready.ready.config) c.in_ok-ready.ready.lanes.items c.in_ok-ready.ensures.right.right c.in_err-done.ensures.fault in
     search rules
 
 pub returns-in_err-metrics-clause-fault : goal.returns-in_err-metrics-clause-fault
 returns-in_err-metrics-clause-fault g c =
-    let fails = command_fails _ memory.NoMemory (arc_value c.in_ok-ready.ready.config) c.in_ok-ready.ready.lanes.items c.in_ok-ready.ensures.right.right in
+    let fails = command_fails _ _ memory.NoMemory (arc_value c.in_ok-ready.ready.config) c.in_ok-ready.ready.lanes.items c.in_ok-ready.ensures.right.right in
     search rules
 
 pub returns-in_err-watched-clause-fault : goal.returns-in_err-watched-clause-fault
 returns-in_err-watched-clause-fault g c =
-    let fails = command_fails _ memory.NoMemory (arc_value c.in_ok-ready.ready.config) c.in_ok-ready.ready.lanes.items c.in_ok-ready.ensures.right.right in
+    let fails = command_fails _ _ memory.NoMemory (arc_value c.in_ok-ready.ready.config) c.in_ok-ready.ready.lanes.items c.in_ok-ready.ensures.right.right in
     search rules
 
 pub returns-clause-ok : goal.returns-clause-ok

@@ -1,4 +1,4 @@
-use Rattle.std.proofs.Common.{◌≡◌, ◌⊎◌, List, refl, rules, subst, ℕ}
+use Rattle.std.proofs.Common.{◌≡◌, ◌⊎◌, List, false, refl, rules, subst, ℕ}
 use Rattle.object_faults.specs.declared.load_fault.LoadFault.{LoadFault}
 use Rattle.object_faults.specs.declared.load_fault.LoadFault.TheVariants as load
 use Rattle.object_resolve.specs.Text.{IsTextFault}
@@ -18,7 +18,7 @@ returns-in-Err-TooLarge-clause-faulty c config is = absurd (memory-lies _ _ c.in
 pub returns-in-Err-TooLarge-clause-all : goal.returns-in-Err-TooLarge-clause-all
 returns-in-Err-TooLarge-clause-all c =
     large-checked c.args.form c.args.text.items c.in_ok-large-in-Err-TooLarge.large.told.items c.in_ok-large-in-Err-TooLarge.large.warnings
-    (subst (λ (f : LoadFault). (f ≡ load.NoMemory) ⊎ IsTextFault c.args.text.items f) c.in-Err-TooLarge.field-0-is c.in-Err-TooLarge.ensures.fault)
+    (subst (λ (f : LoadFault). (f ≡ load.NoMemory) ⊎ IsTextFault false c.args.text.items f) c.in-Err-TooLarge.field-0-is c.in-Err-TooLarge.ensures.fault)
     c.in_ok-large-in-Err-TooLarge.ensures.told c.in_ok-large-in-Err-TooLarge.ensures.one.1
 
 pub returns-in-Err-Line-clause-faulty : goal.returns-in-Err-Line-clause-faulty
@@ -27,14 +27,14 @@ returns-in-Err-Line-clause-faulty c config is = absurd (memory-lies _ _ c.in-Err
 pub returns-in-Err-Line-clause-all : goal.returns-in-Err-Line-clause-all
 returns-in-Err-Line-clause-all c =
     line-checked c.args.form c.args.text.items c.in-Err-Line.line c.in-Err-Line.fault c.in_ok-plain-in-Err-Line.plain.told.items c.in_ok-plain-in-Err-Line.plain.warnings
-    (subst (λ (f : LoadFault). (f ≡ load.NoMemory) ⊎ IsTextFault c.args.text.items f) c.in-Err-Line.field-0-is c.in-Err-Line.ensures.fault)
+    (subst (λ (f : LoadFault). (f ≡ load.NoMemory) ⊎ IsTextFault false c.args.text.items f) c.in-Err-Line.field-0-is c.in-Err-Line.ensures.fault)
     c.in_ok-plain-in-Err-Line.ensures.told c.in_ok-plain-in-Err-Line.ensures.one.1
 
 pub refused_text-requires : goal.refused_text-requires
 refused_text-requires c =
-    subst (λ (t : List ℕ). IsTextFault t (load.Block c.in-Err-Block.line c.in-Err-Block.fault)) (search rules)
+    subst (λ (t : List ℕ). IsTextFault false t (load.Block c.in-Err-Block.line c.in-Err-Block.fault)) (search rules)
     (text-fault c.args.text.items (load.Block c.in-Err-Block.line c.in-Err-Block.fault) refl
-    (subst (λ (f : LoadFault). (f ≡ load.NoMemory) ⊎ IsTextFault c.args.text.items f) c.in-Err-Block.field-0-is c.in-Err-Block.ensures.fault))
+    (subst (λ (f : LoadFault). (f ≡ load.NoMemory) ⊎ IsTextFault false c.args.text.items f) c.in-Err-Block.field-0-is c.in-Err-Block.ensures.fault))
 
 pub returns-clause-faulty : goal.returns-clause-faulty
 returns-clause-faulty c config is = absurd (memory-lies _ _ c.in-Err-Block.field-0-is refl (c.in-Err-Block.ensures.only config is))
@@ -42,6 +42,6 @@ returns-clause-faulty c config is = absurd (memory-lies _ _ c.in-Err-Block.field
 pub returns-clause-all : goal.returns-clause-all
 returns-clause-all c =
     block-checked c.args.form c.args.text.items c.in-Err-Block.line c.in-Err-Block.fault c.in_ok-broken-in-Err-Block.broken.told.items c.in_ok-broken-in-Err-Block.broken.warnings
-    (subst (λ (f : LoadFault). (f ≡ load.NoMemory) ⊎ IsTextFault c.args.text.items f) c.in-Err-Block.field-0-is c.in-Err-Block.ensures.fault)
+    (subst (λ (f : LoadFault). (f ≡ load.NoMemory) ⊎ IsTextFault false c.args.text.items f) c.in-Err-Block.field-0-is c.in-Err-Block.ensures.fault)
     (subst (λ (t : List ℕ). AreRefused c.args.form t (load.Block c.in-Err-Block.line c.in-Err-Block.fault) c.in_ok-broken-in-Err-Block.broken.told.items c.in_ok-broken-in-Err-Block.broken.warnings)
     (search rules) c.in_ok-broken-in-Err-Block.ensures.refused)

@@ -6,5 +6,5 @@ use Rattle.slow_rules.proofs.dependencies.add_entries.Given as goal
 abbrev pub invariant-loop-entry : goal.invariant-loop-entry
 invariant-loop-entry l = record {
   as_many : length l.flags ≡ length l.initial.flags;
-  each : (o : ℕ) → flag_at l.flags o ≡ (flag_at l.initial.flags o || object_flag l.periods l.states l.before (take l.entry-index l.entries) o);
+  each : (o : ℕ) → flag_at l.flags o ≡ (flag_at l.initial.flags o || object_flag l.daemons l.periods l.states l.before (take l.entry-index l.entries) o);
 }

@@ -1,7 +1,7 @@
 use Rattle.std.proofs.Common.{sym, ap, ◌∙◌}
 use Rattle.due_model.specs.declared.event.EventKind.{EventKind}
 use Rattle.decider.specs.Statuses.{StatusLists, statuses_after, with_state}
-use Rattle.decider.proofs.StatusLaws.{ack_counted, depth_counted, flapping_counted, hard_counted}
+use Rattle.decider.proofs.StatusLaws.{ack_counted, depth_counted, flapping_counted, hard_counted, removal_counted, switch_counted}
 use Rattle.decider.proofs.statuses.Statuses.count.Goals as goal
 
 pub returns-in-Hard : goal.returns-in-Hard
@@ -25,3 +25,13 @@ pub returns-in-Ack : goal.returns-in-Ack
 returns-in-Ack c =
     c.follow_ack-in-Ack.ensures ∙ ack_counted c.args.self.now c.in-Ack.object c.in-Ack.field-1
     ∙ ap (λ (k : EventKind). statuses_after k c.args.self.now) (sym c.in-Ack.is)
+
+pub returns-in-AckRemoved : goal.returns-in-AckRemoved
+returns-in-AckRemoved c =
+    c.follow_ack-in-AckRemoved.ensures ∙ removal_counted c.args.self.now c.in-AckRemoved.object
+    ∙ ap (λ (k : EventKind). statuses_after k c.args.self.now) (sym c.in-AckRemoved.is)
+
+pub returns-in-OwnSwitch : goal.returns-in-OwnSwitch
+returns-in-OwnSwitch c =
+    c.follow_switch.ensures ∙ switch_counted c.args.self.now c.in-OwnSwitch.object c.in-OwnSwitch.field-1
+    ∙ ap (λ (k : EventKind). statuses_after k c.args.self.now) (sym c.in-OwnSwitch.is)

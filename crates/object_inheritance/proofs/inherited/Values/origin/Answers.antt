@@ -1,5 +1,7 @@
 use Rattle.std.proofs.Common.{◌≡◌, ◌∙◌, Option, [], ap, arith, length, subst, sym, ℕ}
 use Rattle.std.specs.Prelude.{IfSome}
+use Rattle.std.specs.Arc.{arc_value}
+use Rattle.std.specs.Option.{option_map}
 use Rattle.object_inheritance.specs.Columns.{Column, line_of}
 use Rattle.object_inheritance.specs.Inherited.{given, own, value}
 use Rattle.object_inheritance.specs.declared.inherited.Given.{Given}
@@ -25,7 +27,7 @@ returns-in-None-clause-same c =
     let end : c.len.result ≡ length column.items = omega (arith, c.len.ensures, column.ok) in
     subst (λ (column : Column). given column.blocks column.directive c.len.result ≡ []) c.self.view_is
     (ap (λ (n : ℕ). given c.self.inside.blocks.now c.self.inside.directive.now n) end
-    ∙ past-none c.self.inside.blocks.now c.self.inside.directive.now column.items c.self.invariant)
+    ∙ past-none c.self.inside.blocks.now c.self.inside.directive.now (option_map (λ uses. arc_value uses) c.self.inside.uses) column.items c.self.invariant)
     ∙ sym (c.given.ensures.line ∙ ap (line_of c.args.self.now.blocks c.args.self.now.directive) c.in-None.is)
 
 pub returns-in-None-clause-own : goal.returns-in-None-clause-own
@@ -35,4 +37,4 @@ returns-in-None-clause-own c =
     none-gives c.args.self.now.blocks c.args.self.now.directive c.args.place c.len.result c.given.result c.given.ensures c.in-None.is
     (subst (λ (column : Column). given column.blocks column.directive c.len.result ≡ []) c.self.view_is
     (ap (λ (n : ℕ). given c.self.inside.blocks.now c.self.inside.directive.now n) end
-    ∙ past-none c.self.inside.blocks.now c.self.inside.directive.now column.items c.self.invariant))
+    ∙ past-none c.self.inside.blocks.now c.self.inside.directive.now (option_map (λ uses. arc_value uses) c.self.inside.uses) column.items c.self.invariant))

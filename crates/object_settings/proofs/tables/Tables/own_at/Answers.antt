@@ -1,4 +1,4 @@
-use Rattle.std.proofs.Common.{◌∙◌, List, Bool, ap, map, refl, subst, sym, true, ℕ}
+use Rattle.std.proofs.Common.{◌∙◌, List, Bool, ap, false, map, refl, subst, sym, true, ℕ}
 use Rattle.std.specs.Prelude.{codes}
 use Rattle.object_groups.specs.Objects.{names_in}
 use Rattle.object_inheritance.specs.Columns.{Column}
@@ -36,6 +36,7 @@ returns-clause-own c =
     record {
       named = refl;
       enabled = c.is_on.ensures ∙ read-are (λ bs d. is_on bs d true place) blocks inside (codes "notifications_enabled") filters.flags same c.self.invariant.filters_are.flags_are;
+      volatile = c.is_on-2.ensures ∙ read-are (λ bs d. is_on bs d false place) blocks inside (codes "is volatile") filters.volatiles same c.self.invariant.filters_are.volatiles_are;
       options = c.letters_once.ensures.letters ∙ read-are (λ bs d. letters_at bs d c.args.kind place) blocks inside (codes "notification_options") filters.options same c.self.invariant.filters_are.options_are;
       delay = c.number_at.ensures ∙ read-are (λ bs d. number_at bs d 0 place) blocks inside (codes "first_notification_delay") times.delays same c.self.invariant.times_are.delays_are;
       interval = c.own_number.ensures ∙ read-are (λ bs d. own_number bs d place) blocks inside (codes "notification_interval") times.intervals same c.self.invariant.times_are.intervals_are;

@@ -2,8 +2,8 @@ use Rattle.problem_count.proofs.FitLaws.{suppressed_fits_by}
 use Rattle.problem_count.proofs.book.Book.suppressed.Goals as goal
 use Rattle.std.proofs.Common.{rules}
 
-pub returns-clause-fits : goal.returns-clause-fits
-returns-clause-fits c = suppressed_fits_by c.args.filter c.args.t c.args.next _ c.args.self.now _ c.self.view_is c.retry-self-inside.ensures c.requires.runs
-
 pub returns-clause-values : goal.returns-clause-values
 returns-clause-values c = search rules
+
+pub returns-clause-fits : goal.returns-clause-fits
+returns-clause-fits c = suppressed_fits_by c.args.filter c.args.t c.args.next c.args.self.now _ (returns-clause-values c) c.requires.runs

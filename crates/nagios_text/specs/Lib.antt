@@ -1,0 +1,4 @@
+pub mod Lone
+pub mod Names
+pub mod Values
+pub mod Blocks

@@ -1,0 +1,9 @@
+use Rattle.problem_count.proofs.FitLaws.{unheard_fits_by}
+use Rattle.problem_count.proofs.book.Book.unheard.Goals as goal
+use Rattle.std.proofs.Common.{rules}
+
+pub returns-clause-values : goal.returns-clause-values
+returns-clause-values c = search rules
+
+pub returns-clause-fits : goal.returns-clause-fits
+returns-clause-fits c = unheard_fits_by c.args.t c.args.self.now _ (returns-clause-values c) c.requires.runs

@@ -1,5 +1,0 @@
-use Rattle.std.proofs.Common.{rules}
-use Rattle.slow_rules.proofs.notices.receivers.Goals as goal
-
-pub returns : goal.returns
-returns c = search rules
