@@ -58,6 +58,21 @@ const OF_DOWN: ContactRow = ContactRow {
     ..ContactRow::FREE
 };
 
+/// A service of that host.
+const HTTP: ObjectRow = ObjectRow {
+    host: Some(ObjectId(0)),
+    ..WEB
+};
+
+/// A contact who is told of everything but warnings.
+const BUT_OF_WARNINGS: ContactRow = ContactRow {
+    options: OptionLetters {
+        warning: false,
+        ..OptionLetters::ALL
+    },
+    ..ContactRow::FREE
+};
+
 /// What a notice or a suppression tells: its event, its number, and its contact.
 type Told = (u64, u64, u16);
 
@@ -87,18 +102,17 @@ fn said(rt: &impl Abort, alloc: Global, config: &Config, events: &[Event]) -> Re
     Said::of(alloc, config, events, SOLE)
 }
 
-/// Compares what a decider of these rows tells of these events.
+/// Compares what a decider of this configuration tells of these events.
 fn tells(
     rt: &impl Abort,
     alloc: Global,
-    rows: Rows<'_>,
+    config: &Config,
     events: &[Event],
     notices: &[Told],
     suppressed: &[(Told, Filter)],
 ) -> Result<(), Fail> {
-    let config = config_of(alloc, rows)?;
-    assert!(rt; is_accepted(&config));
-    are_told(rt, &said(rt, alloc, &config, events)?, notices, suppressed);
+    assert!(rt; is_accepted(config));
+    are_told(rt, &said(rt, alloc, config, events)?, notices, suppressed);
     Ok(())
 }
 
@@ -118,7 +132,8 @@ fn a_recovery_after_an_escalation(rt: HostRuntime) -> Result<(), Fail> {
         hard(1_130, 0, State::Up),
     ];
     let notices = [(0, 1, 0), (1, 2, 0), (2, 3, 1), (3, 4, 1)];
-    tells(&rt, rt.alloc(), rows, &events, &notices, &[])
+    let config = config_of(rt.alloc(), rows)?;
+    tells(&rt, rt.alloc(), &config, &events, &notices, &[])
 }
 
 #[test]
@@ -131,5 +146,31 @@ fn options_of_a_contact(rt: HostRuntime) -> Result<(), Fail> {
     };
     let events = [hard(1_000, 0, State::Down), hard(1_010, 0, State::Up)];
     let suppressed = [((1, 2, 0), Filter::ContactOptions)];
-    tells(&rt, rt.alloc(), rows, &events, &[(0, 1, 0)], &suppressed)
+    let config = config_of(rt.alloc(), rows)?;
+    tells(&rt, rt.alloc(), &config, &events, &[(0, 1, 0)], &suppressed)
+}
+
+/// A service's recovery goes to nobody who wasn't told of its problem, where the daemon's rule is chosen.
+#[test]
+fn a_recovery_to_one_who_was_not_told(rt: HostRuntime) -> Result<(), Fail> {
+    let rows = Rows {
+        lanes: 2,
+        contacts: &[BUT_OF_WARNINGS],
+        objects: &[WEB, HTTP],
+        ..Rows::NONE
+    };
+    let events = [hard(1_000, 1, State::Warning), hard(1_010, 1, State::Fine)];
+    let mut config = config_of(rt.alloc(), rows)?;
+    let of_warnings = ((0, 1, 0), Filter::ContactOptions);
+    tells(
+        &rt,
+        rt.alloc(),
+        &config,
+        &events,
+        &[(1, 2, 0)],
+        &[of_warnings],
+    )?;
+    config.choices.told = true;
+    let suppressed = [of_warnings, ((1, 2, 0), Filter::ContactNotTold)];
+    tells(&rt, rt.alloc(), &config, &events, &[], &suppressed)
 }

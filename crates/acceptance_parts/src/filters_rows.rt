@@ -384,7 +384,7 @@ fn contact_gives(
             periods,
         };
         let found = contact_verdict(config, ContactId(place as u16), &attempt, None).err();
-        let wanted = if *kind == Kind::Problem {
+        let wanted = if *kind == Kind::Problem || *kind == Kind::Acknowledgement {
             held.problem
         } else {
             held.other
