@@ -80,7 +80,7 @@ def of_specs(text):
     for line in text.split("\n"):
         if not line.strip() or line.lstrip().startswith("--"):
             continue
-        if line.startswith((" ", "\t", "}", ")")):
+        if line.startswith((" ", "\t", "}", ")", "]")):
             field = re.match(r"\s+(?:pub )?([^\s:(){},]+) (?:.* )?: ", line)
             if found and name:
                 found[-1][0].update([field[1]] if field else [])

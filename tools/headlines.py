@@ -4,7 +4,8 @@
   python3 tools/headlines.py             a line for each headline: how many definitions, and of how many lines
   python3 tools/headlines.py NAME        the definitions of one headline, by crate and file: NAME is a call, as `replay::replay_files`
 
-Definitions stand in the crates' specs/, and types in src/. Names of the kit aren't followed. A line counts unless it is empty or a comment."""
+Definitions stand in the crates' specs/claims/, and types in src/: a definition that stands elsewhere is told, and is a failure. Names of the kit aren't followed. A line counts
+unless it is empty or a comment."""
 import functools
 import os
 import re
@@ -26,8 +27,10 @@ HEADLINES = [
     "run_command::run",
 ]
 IMPORT = re.compile(r"(?:ghost )?(?:pub )?use Rattle\.(\w+)\.specs\.([\w.]+)\.\{([^}]*)\}")
+GIVEN_ON = re.compile(r"(?m)^pub use Rattle\.(\w+)\.specs\.([\w.]+)\.\{([^}]*)\}")
 WHOLE = re.compile(r"(?:ghost )?(?:pub )?use Rattle\.(\w+)\.specs\.([\w.]+) as (\w+)")
 WORD = re.compile(r"[^\W\d][\w'-]*|◌\S+|\S+◌")
+OF_A_MODULE = re.compile(r"(?<![\w.'])([^\W\d]\w*)\.([^\W\d][\w'-]*)")
 
 
 def text_of(path):
@@ -102,7 +105,13 @@ def place(crate, module, name):
     if not os.path.isfile(path):
         return None
     lines = block(text_of(path), name, False)
-    return (path, name, lines) if lines else None
+    if lines:
+        return path, name, lines
+    # (it may give on what another module defines)
+    for other, its_module, names in GIVEN_ON.findall(text_of(path)):
+        if name in map(str.strip, names.split(",")):
+            return place(other, its_module, name)
+    return None
 
 
 def contract_of(headline):
@@ -127,8 +136,11 @@ def closure_of(headline):
         known, is_code = imports(text), path.endswith(".rt")
         crate = os.path.relpath(path, f"{TOP}/crates").split("/")[0]
         module = None if is_code else os.path.relpath(path, f"{TOP}/crates/{crate}/specs")[: -len(".antt")].replace("/", ".")
-        for word in set(WORD.findall("\n".join(lines))) - bound_in(lines, is_code):
-            target = known.get(word) or (None if is_code else (crate, module, word))
+        said = "\n".join(lines)
+        words = set(WORD.findall(said)) - bound_in(lines, is_code)
+        targets = [known.get(word) or (None if is_code else (crate, module, word)) for word in words]
+        targets += [(*known[here][:2], name) for here, name in OF_A_MODULE.findall(said) if here in known and not known[here][2]]
+        for target in targets:
             there = place(*target) if target else None
             if there and there[:2] not in found:
                 found[there[:2]] = there[2]
@@ -136,16 +148,26 @@ def closure_of(headline):
     return contract_of(headline)[1], found
 
 
+def measured(headline):
+    """Returns how many lines the contract of a headline has, how many definitions stand below it, of how many lines, and those of specs/ that aren't among the claims."""
+    contract, found = closure_of(headline)
+    outside = [f"{os.path.relpath(path, f'{TOP}/crates')}: {name}" for path, name in sorted(found) if "/specs/" in path and "/specs/claims/" not in path]
+    return len(contract), len(found), sum(map(len, found.values())), outside
+
+
 def main():
-    asked = sys.argv[1:] or HEADLINES
+    asked, failed = sys.argv[1:] or HEADLINES, 0
     for headline in asked:
-        contract, found = closure_of(headline)
-        count = sum(map(len, found.values()))
-        print(f"{headline}: {len(contract)} lines of contract, {len(found)} definitions of {count} lines")
+        contract, count, lines, outside = measured(headline)
+        print(f"{headline}: {contract} lines of contract, {count} definitions of {lines} lines")
+        for place in outside:
+            print(f"  not among the claims: {place}")
+        failed += len(outside)
         if sys.argv[1:]:
-            for (path, name), lines in sorted(found.items()):
-                print(f"  {os.path.relpath(path, TOP + '/crates')}: {name} ({len(lines)})")
+            for (path, name), of in sorted(closure_of(headline)[1].items()):
+                print(f"  {os.path.relpath(path, TOP + '/crates')}: {name} ({len(of)})")
+    return 1 if failed else 0
 
 
 if __name__ == "__main__":
-    main()
+    sys.exit(main())

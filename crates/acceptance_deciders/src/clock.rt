@@ -1,9 +1,9 @@
 //! How many problems the clock judges: those that are ready, and no other.
 
 ghost use Rattle.std.specs.Prelude.{All};
-ghost use Rattle.due_model.specs.Accepted.{IsAccepted};
-ghost use Rattle.due_model.specs.Proper.{IsProper};
-ghost use Rattle.decider.specs.Share.{IsShare};
+ghost use Rattle.due_model.specs.claims.Accepted.{IsAccepted};
+ghost use Rattle.due_model.specs.claims.Proper.{IsProper};
+ghost use Rattle.decider.specs.claims.Share.{IsShare};
 
 use crate::said::examined;
 use acceptance_inputs::accepted::is_accepted;

@@ -1,10 +1,10 @@
 //! One decider against the slow program, and several deciders against one.
 
 ghost use Rattle.std.specs.Prelude.{All, ◌<◌, ◌≤◌, length};
-ghost use Rattle.due_model.specs.Accepted.{IsAccepted};
-ghost use Rattle.due_model.specs.Limits.{max_deciders};
-ghost use Rattle.due_model.specs.Proper.{IsProper};
-ghost use Rattle.decider.specs.Share.{IsShare};
+ghost use Rattle.due_model.specs.claims.Accepted.{IsAccepted};
+ghost use Rattle.due_model.specs.claims.Limits.{max_deciders};
+ghost use Rattle.due_model.specs.claims.Proper.{IsProper};
+ghost use Rattle.decider.specs.claims.Share.{IsShare};
 
 use crate::said::{LANES, Said};
 use decider::Share;

@@ -2,8 +2,8 @@
 //! each growth refused in turn.
 
 ghost use Rattle.std.specs.Prelude.{All};
-ghost use Rattle.due_model.specs.Accepted.{IsAccepted};
-ghost use Rattle.due_model.specs.Proper.{IsProper};
+ghost use Rattle.due_model.specs.claims.Accepted.{IsAccepted};
+ghost use Rattle.due_model.specs.claims.Proper.{IsProper};
 
 use crate::said::Said;
 use acceptance_inputs::accepted::is_accepted;

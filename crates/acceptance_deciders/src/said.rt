@@ -2,11 +2,11 @@
 
 ghost use Rattle.std.specs.Prelude.{◌≡◌, ◌∷◌, All, List, OnOk, length};
 ghost use Rattle.due_model.specs.declared.event.Event.{Event};
-ghost use Rattle.due_model.specs.Accepted.{IsAccepted};
-ghost use Rattle.due_model.specs.Proper.{IsProper};
-ghost use Rattle.decider.specs.Fits.{Fits, kept, settings};
-ghost use Rattle.decider.specs.Outbox.{lists};
-ghost use Rattle.decider.specs.Share.{IsShare};
+ghost use Rattle.due_model.specs.claims.Accepted.{IsAccepted};
+ghost use Rattle.due_model.specs.claims.Proper.{IsProper};
+ghost use Rattle.decider.specs.claims.Fits.{Fits, kept, settings};
+ghost use Rattle.decider.specs.claims.Outbox.{lists};
+ghost use Rattle.decider.specs.claims.Share.{IsShare};
 
 use decider::{DecideFault, Decider, Outbox, Share};
 use due_model::config::{Config, LaneId, ObjectId};

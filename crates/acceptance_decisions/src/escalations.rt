@@ -1,8 +1,8 @@
 //! The interval after a notification, and who is notified. Values are those of the manual's escalations that overlap
 //! (chapter "Notification Escalations"), or reckoned by hand.
 
-ghost use Rattle.due_model.specs.Accepted.{IsAccepted};
-ghost use Rattle.time_period.specs.Days.{AreCompiled};
+ghost use Rattle.due_model.specs.claims.Accepted.{IsAccepted};
+ghost use Rattle.time_period.specs.claims.Days.{AreCompiled};
 
 use acceptance_inputs::accepted::is_accepted;
 use acceptance_inputs::periods::{Row, periods};

@@ -7,7 +7,7 @@ use Rattle.due_model.specs.declared.config.Config.{Config}
 use Rattle.due_model.specs.declared.config.Dependency.{Dependency}
 use Rattle.due_model.specs.declared.config.Period.{Period}
 use Rattle.due_model.specs.declared.config.PeriodId.{PeriodId}
-use Rattle.due_model.specs.Accepted.{Chain, ContactFits, DependencyFits, DependsOn, EscalationFits, Excludes, HasNoLoop, IsAccepted, ObjectFits, PeriodFits}
+use Rattle.due_model.specs.claims.Accepted.{Chain, ContactFits, DependencyFits, DependsOn, EscalationFits, Excludes, HasNoLoop, IsAccepted, ObjectFits, PeriodFits}
 use Rattle.acceptance_inputs.specs.Ladder.{IsFall, IsFew, IsFewBesides, IsLadder, IsStep}
 
 -- what goes down at each step never comes back

@@ -3,8 +3,8 @@ use Rattle.std.specs.Prelude.{◌≡◌, ℕ, ◌<◌, ◌≤◌, List, length, 
 use Rattle.due_model.specs.declared.config.Config.{Config}
 use Rattle.due_model.specs.declared.config.Dependency.{Dependency}
 use Rattle.due_model.specs.declared.config.Period.{Period}
-use Rattle.due_model.specs.Accepted.{HasObject, HasPeriod, RangeFits}
-use Rattle.due_model.specs.Limits.{max_objects, max_contacts, max_lanes, max_periods, max_escalations, max_dependencies}
+use Rattle.due_model.specs.claims.Accepted.{HasObject, HasPeriod, RangeFits}
+use Rattle.due_model.specs.claims.Limits.{max_objects, max_contacts, max_lanes, max_periods, max_escalations, max_dependencies}
 
 -- no more than there may be
 pub record IsFew (c : Config) : Type 0 where

@@ -2,9 +2,9 @@
 //! here, and then calls what wants an accepted one.
 
 ghost use Rattle.std.specs.Prelude.{◌≤◌, ◌<◌, All, IfSome, IsTrue, length};
-ghost use Rattle.due_model.specs.Accepted.{ContactFits, DependencyFits, EscalationFits};
-ghost use Rattle.due_model.specs.Accepted.{HasContacts, HasPeriod, IsAccepted, IsHost};
-ghost use Rattle.due_model.specs.Accepted.{ObjectFits, RangeFits, RightsFit};
+ghost use Rattle.due_model.specs.claims.Accepted.{ContactFits, DependencyFits, EscalationFits};
+ghost use Rattle.due_model.specs.claims.Accepted.{HasContacts, HasPeriod, IsAccepted, IsHost};
+ghost use Rattle.due_model.specs.claims.Accepted.{ObjectFits, RangeFits, RightsFit};
 ghost use Rattle.acceptance_inputs.specs.Ladder.{IsFew, IsFewBesides, IsFall, IsLadder, IsStep};
 
 use due_model::config::{

@@ -2,7 +2,7 @@
 
 ghost use Rattle.std.specs.Prelude.{◌≡◌, IfOk, length};
 ghost use Rattle.due_laws.specs.Rows.{base};
-ghost use Rattle.due_model.specs.Accepted.{IsAccepted};
+ghost use Rattle.due_model.specs.claims.Accepted.{IsAccepted};
 
 use crate::rows::{ContactRow, ObjectRow, Rows, config_of};
 use due_model::config::{Config, ContactId, ContactList, LaneId, Object, ObjectId};

@@ -1,7 +1,7 @@
 //! Notification dependencies that tests are run on.
 
 ghost use Rattle.std.specs.Prelude.{◌≡◌, length, IfOk, None};
-ghost use Rattle.due_model.specs.Objects.{object_id};
+ghost use Rattle.due_model.specs.claims.Objects.{object_id};
 
 use crate::rows::{ObjectRow, objects_of};
 use due_model::config::{Dependency, ObjectId};

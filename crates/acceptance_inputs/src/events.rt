@@ -1,8 +1,8 @@
 //! Events in short, and whether events may be given to the bodies.
 
 ghost use Rattle.std.specs.Prelude.{◌≡◌, All, IsTrue};
-ghost use Rattle.due_model.specs.Objects.{object_id};
-ghost use Rattle.due_model.specs.Proper.{IsProper};
+ghost use Rattle.due_model.specs.claims.Objects.{object_id};
+ghost use Rattle.due_model.specs.claims.Proper.{IsProper};
 ghost use Rattle.due_model.specs.declared.event.EventKind.TheVariants.{Clock, Hard};
 
 use due_model::config::{Config, ObjectId};

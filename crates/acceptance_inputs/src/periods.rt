@@ -1,7 +1,7 @@
 //! Time periods as tables.
 
 ghost use Rattle.std.specs.Prelude.{◌≡◌, IfOk, IsOk, length};
-ghost use Rattle.due_model.specs.Accepted.{IsAccepted};
+ghost use Rattle.due_model.specs.claims.Accepted.{IsAccepted};
 
 use crate::accepted::is_accepted;
 use crate::rows::config_of_periods;

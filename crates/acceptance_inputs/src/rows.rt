@@ -3,7 +3,7 @@
 ghost use Rattle.std.specs.Prelude.{◌≡◌, ◌+◌, ◌++◌, []};
 ghost use Rattle.std.specs.Prelude.{length, map, replicate, take, IfOk, IsOk};
 ghost use Rattle.due_model.specs.Choices.{own};
-ghost use Rattle.due_model.specs.Limits.{max_objects};
+ghost use Rattle.due_model.specs.claims.Limits.{max_objects};
 ghost use Rattle.acceptance_inputs.specs.Tables.{contact_of, escalation_of, host_rights, mail};
 ghost use Rattle.acceptance_inputs.specs.Tables.{object_of, rights_of};
 

@@ -2,7 +2,8 @@
 
 ghost use Rattle.std.specs.Prelude.{◌≡◌, ◌↔◌, ◌+◌, ◌<◌, ◌≤◌, [], ◌∷◌, ◌++◌, length};
 ghost use Rattle.std.specs.Prelude.{IsTrue, IsErrOf, OnOk, OnErr, if◌then◌else◌};
-ghost use Rattle.channel.specs.Channels.{IsCounted, receipt_of};
+ghost use Rattle.channel.specs.claims.Channels.{receipt_of};
+ghost use Rattle.channel.specs.Channels.{IsCounted};
 
 use channel::letter::Letter;
 use channel::memory::MemoryChannel;

@@ -1,9 +1,9 @@
 //! What the filters say of views and contacts, by the rules of the manual's chapter "Notifications".
 
 ghost use Rattle.std.specs.Prelude.{◌≤◌, IfSome, IsTrue};
-ghost use Rattle.due_model.specs.Limits.{last_moment, max_number};
+ghost use Rattle.due_model.specs.claims.Limits.{last_moment, max_number};
 ghost use Rattle.filters.specs.Attempt.{IsLastInRange};
-ghost use Rattle.time_period.specs.Days.{AreCompiled};
+ghost use Rattle.time_period.specs.claims.Days.{AreCompiled};
 
 use acceptance_inputs::periods::{Row, periods};
 use acceptance_inputs::rows::NO_LETTER;

@@ -1,9 +1,9 @@
 //! A world at its limits. The worked examples are rows of `tests/traces`.
 
 ghost use Rattle.std.specs.Prelude.{◌≡◌, ◌<◌, All, IsTrue, length};
-ghost use Rattle.due_model.specs.Accepted.{IsAccepted};
-ghost use Rattle.world_steps.specs.Steps.{IsProperStep};
-ghost use Rattle.world_steps.specs.Views.{world_setup};
+ghost use Rattle.due_model.specs.claims.Accepted.{IsAccepted};
+ghost use Rattle.world_steps.specs.claims.Steps.{IsProperStep};
+ghost use Rattle.world_steps.specs.claims.Views.{world_setup};
 
 use acceptance_inputs::accepted::is_accepted;
 use acceptance_inputs::configs::wide;

@@ -1,12 +1,12 @@
 //! What is asked of the services of a text, and of the groups, escalations and dependencies that speak of them.
 
 ghost use Rattle.std.specs.Prelude.{◌≡◌, ◌≤◌, length};
-ghost use Rattle.due_model.specs.Limits.{max_periods};
-ghost use Rattle.object_dependencies.specs.Pairs.{ArePairsBelow};
+ghost use Rattle.due_model.specs.claims.Limits.{max_periods};
+ghost use Rattle.object_dependencies.specs.claims.Pairs.{ArePairsBelow};
 ghost use Rattle.object_groups.specs.declared.groups.GroupKind.TheVariants.{HostGroups};
-ghost use Rattle.object_groups.specs.Objects.{objects_in};
+ghost use Rattle.object_groups.specs.claims.Objects.{objects_in};
 ghost use Rattle.object_reader.specs.declared.block.BlockKind.TheVariants.{Service};
-ghost use Rattle.object_services.specs.Limits.{AreHostLists};
+ghost use Rattle.object_services.specs.claims.Limits.{AreHostLists};
 
 use crate::shown::{push_numbers, show_place, text_or_mark};
 use due_model::config::{Dependency, PeriodId};

@@ -10,8 +10,8 @@ use Rattle.due_model.specs.declared.event.Event.{Event}
 use Rattle.due_model.specs.declared.event.EventKind.{EventKind}
 use Rattle.due_model.specs.declared.event.EventKind.TheVariants.{Clock, Program, Hard, Downtime, Flapping, Ack, AckRemoved, OwnSwitch}
 use Rattle.due_model.specs.declared.state.State.{State}
-use Rattle.due_model.specs.Limits.{last_moment}
-use Rattle.due_model.specs.Proper.{IsProper, KindIsProper, is_state_of}
+use Rattle.due_model.specs.claims.Limits.{last_moment}
+use Rattle.due_model.specs.claims.Proper.{IsProper, KindIsProper, is_state_of}
 use Rattle.caller_feeds.specs.declared.item.FeedItem.{FeedItem}
 use Rattle.caller_feeds.specs.declared.item.FeedItem.TheVariants.{End, Posted}
 use Rattle.caller_feeds.specs.Items.{proper_event}

@@ -8,7 +8,7 @@ use Rattle.std.proofs.lemmas.List.Elements.{All-cons, All-nil, All-set}
 use Rattle.std.proofs.lemmas.Option.{none-some, same_Some, slice_get_within, slice_get-get_or}
 use Rattle.due_model.specs.declared.config.Config.{Config}
 use Rattle.due_model.specs.declared.event.Event.{Event}
-use Rattle.due_model.specs.Proper.{IsProper}
+use Rattle.due_model.specs.claims.Proper.{IsProper}
 use Rattle.lemmas.proofs.Elements.{at-Contains}
 use Rattle.lemmas.proofs.Lists.{All-slice_get, some_at}
 use Rattle.caller_feeds.specs.declared.item.FeedItem.{FeedItem}

@@ -6,8 +6,8 @@ use Rattle.due_model.specs.declared.config.Object.{Object}
 use Rattle.due_model.specs.declared.event.Event.{Event}
 use Rattle.due_model.specs.declared.event.EventKind.{EventKind}
 use Rattle.due_model.specs.declared.event.EventKind.TheVariants.{Clock, Program, Hard, Downtime, Flapping, Ack, AckRemoved, OwnSwitch}
-use Rattle.due_model.specs.Limits.{last_moment}
-use Rattle.due_model.specs.Proper.{IsProper, is_state_of}
+use Rattle.due_model.specs.claims.Limits.{last_moment}
+use Rattle.due_model.specs.claims.Proper.{IsProper, is_state_of}
 
 -- an event of this kind names an object of the configuration, if it names one, and a hard state is one of that object's kind
 abbrev pub kind_is_proper : Config → EventKind → Bool

@@ -3,7 +3,7 @@ use Rattle.std.specs.Prelude.{◌≡◌, ℕ, ◌≤◌, ◌++◌, [], All, Cont
 use Rattle.std.specs.List.{AllZip}
 use Rattle.due_model.specs.declared.config.Config.{Config}
 use Rattle.due_model.specs.declared.event.Event.{Event}
-use Rattle.due_model.specs.Proper.{IsProper}
+use Rattle.due_model.specs.claims.Proper.{IsProper}
 use Rattle.caller_feeds.specs.declared.handle.FeedHandle.{FeedHandle}
 use Rattle.caller_feeds.specs.declared.end.FeedEnd.{FeedEnd}
 use Rattle.caller_feeds.specs.declared.intake.IntakeStop.{IntakeStop}

@@ -6,7 +6,7 @@ use Rattle.std.specs.Str.{bytes_eq}
 use Rattle.due_model.specs.declared.config.Config.{Config}
 use Rattle.due_model.specs.declared.config.ObjectId.{ObjectId}
 use Rattle.due_model.specs.declared.notice.Notice.{Notice}
-use Rattle.notice_text.specs.Texts.{contact_text, lane_text, own_name}
+use Rattle.notice_text.specs.claims.Texts.{contact_text, lane_text, own_name}
 
 -- the number of an object's host, if it is a service
 abbrev pub host_of : Config → ℕ → Option ObjectId

@@ -2,7 +2,7 @@
 
 ghost use Rattle.std.specs.Prelude.{◌≡◌};
 ghost use Rattle.std.specs.Option.{option_copied};
-ghost use Rattle.notice_text.specs.Texts.{own_name};
+ghost use Rattle.notice_text.specs.claims.Texts.{own_name};
 ghost use Rattle.changed_notices.specs.Names.{host_of, is_same, name_of_host, same_host};
 
 use due_model::config::{Config, ObjectId};

@@ -1,6 +1,6 @@
 -- What a channel of one of two kinds is to its callers: what the one that it holds is.
 use Rattle.std.specs.Prelude.{ℕ, List, [], ◌++◌}
-use Rattle.channel.specs.Channels.{Account, Offer}
+use Rattle.channel.specs.claims.Channels.{Account, Offer}
 use Rattle.channel.specs.declared.Kind.{Kind}
 use Rattle.channel.specs.declared.either.Either.{Either}
 use Rattle.channel.specs.declared.either.Either.TheVariants.{Left, Right}

@@ -1,6 +1,7 @@
 -- How offers to a channel follow one another.
 use Rattle.std.proofs.Common.{◌≡◌, List, [], ◌∷◌, ◌++◌, if◌then◌else◌, refl, sym, ap, ◌∙◌, append-nil, append_assoc}
-use Rattle.channel.specs.Channels.{Account, Offer, WasOffered, receipt_of, receipts_of}
+use Rattle.channel.specs.claims.Channels.{Account, Offer, receipt_of}
+use Rattle.channel.specs.Channels.{WasOffered, receipts_of}
 use Rattle.channel.specs.declared.Receipt.{Receipt}
 
 receipts-append : (one two : List Offer) → receipts_of (one ++ two) ≡ receipts_of one ++ receipts_of two

@@ -1,9 +1,10 @@
 //! The letter of a notice.
 
 ghost use Rattle.std.specs.Prelude.{◌≡◌, ◌++◌, decimal, IfOk, OnOk};
-ghost use Rattle.channel.specs.Letter.{AgainIsALine, IsLetter, again_of, letter_of, line, number_lines};
-ghost use Rattle.channel.specs.Letter.{subject_lines};
-ghost use Rattle.notice_text.specs.Texts.{number_text, object_text};
+ghost use Rattle.channel.specs.claims.Letter.{letter_of, line, number_lines};
+ghost use Rattle.channel.specs.Letter.{AgainIsALine, IsLetter, again_of};
+ghost use Rattle.channel.specs.claims.Letter.{subject_lines};
+ghost use Rattle.notice_text.specs.claims.Texts.{number_text, object_text};
 
 use due_model::config::{Config, ObjectId};
 use due_model::notice::Notice;
@@ -105,7 +106,7 @@ fn own_len(config: &Config, object: ObjectId) -> usize {
 }
 
 /// Adds the lines for the contact, the kind, the object and its state.
-#[tactic(auto, unfolding(crate::specs::Letter::subject_lines))]
+#[tactic(auto, unfolding(crate::specs::claims::Letter::subject_lines))]
 fn push_subject(text: &mut Vec<u8>, config: &Config, notice: &Notice) -> Result<(), AllocError>
     ensures { OnOk result
         (text.new.items ≡ text.old.items ++ subject_lines config.now notice.now) }
@@ -117,7 +118,7 @@ fn push_subject(text: &mut Vec<u8>, config: &Config, notice: &Notice) -> Result<
 }
 
 /// Adds the lines for the number of the notice, the moment and the number of its event.
-#[tactic(auto, unfolding(crate::specs::Letter::number_lines))]
+#[tactic(auto, unfolding(crate::specs::claims::Letter::number_lines))]
 fn push_numbers(text: &mut Vec<u8>, notice: &Notice) -> Result<(), AllocError>
     ensures { OnOk result (text.new.items ≡ text.old.items ++ number_lines notice.now) }
 {

@@ -1,6 +1,6 @@
 -- What a channel over a device is to its callers.
 use Rattle.std.specs.Prelude.{◌≡◌, ℕ, ◌≤◌, Bool, false, List, length, Option, Some, None, is_none, ⊤}
-use Rattle.channel.specs.Channels.{Account}
+use Rattle.channel.specs.claims.Channels.{Account}
 use Rattle.channel.specs.Record.{Record}
 use Rattle.channel.specs.declared.Kind.{Kind}
 

@@ -1,7 +1,7 @@
 -- What a mailbox is to its callers.
 use Rattle.std.specs.Prelude.{◌≡◌, ℕ, Bool, true, IsTrue, List, codes, Option}
 use Rattle.std.specs.Io.KnownBytes.{Appends}
-use Rattle.written.specs.Written.{WritesFront}
+use Rattle.written.specs.claims.Written.{WritesFront}
 
 -- its writer
 pub record Mail (W : Type 0) : Type 0 where

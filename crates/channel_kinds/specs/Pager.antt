@@ -2,7 +2,7 @@
 use Rattle.std.specs.Prelude.{◌≡◌, ℕ, Bool, false, true, not, IsTrue, ◌⊎◌, ◌+◌, ◌≤◌, List, [], ◌∷◌, ◌++◌, codes, decimal, length, Option}
 use Rattle.std.specs.Io.KnownBytes.{Appends}
 use Rattle.channel_kinds.specs.Answer.{IsHeard}
-use Rattle.written.specs.Written.{WritesFront}
+use Rattle.written.specs.claims.Written.{WritesFront}
 
 -- the stream to its peer, and whether it failed once
 pub record Paged (S : Type 0) : Type 0 where

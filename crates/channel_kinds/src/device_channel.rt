@@ -2,7 +2,8 @@
 
 ghost use Rattle.std.specs.Prelude.{◌≡◌, ◌↔◌, ◌+◌, ◌<◌, ◌≤◌, [], ◌∷◌};
 ghost use Rattle.std.specs.Prelude.{◌++◌, length, is_none, is_ok, false, IsErrOf, OnOk, OnErr, None, Some};
-ghost use Rattle.channel.specs.Channels.{IsCounted, WasOffered, offer_of, receipt_of};
+ghost use Rattle.channel.specs.claims.Channels.{receipt_of};
+ghost use Rattle.channel.specs.Channels.{IsCounted, WasOffered, offer_of};
 ghost use Rattle.channel_kinds.specs.DeviceChannel.{IsWithin, KeepsLimits, SendsTo, account_of};
 
 use crate::device::TextDevice;

@@ -2,7 +2,7 @@
 
 ghost use Rattle.std.specs.Prelude.{◌≡◌};
 ghost use Rattle.channel_kinds.specs.Mailbox.{closing_line};
-ghost use Rattle.written.specs.Written.{WritesFront};
+ghost use Rattle.written.specs.claims.Written.{WritesFront};
 
 use crate::device::TextDevice;
 use crate::stream::Outlet;

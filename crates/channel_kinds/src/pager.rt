@@ -3,7 +3,7 @@
 ghost use Rattle.std.specs.Prelude.{◌≡◌, ◌+◌, ◌≤◌, ◌++◌, false, true, length, OnOk};
 ghost use Rattle.std.specs.Io.KnownBytes.{Appends};
 ghost use Rattle.channel_kinds.specs.Pager.{Talks, farewell, page_of, pager_limit};
-ghost use Rattle.written.specs.Written.{WritesFront};
+ghost use Rattle.written.specs.claims.Written.{WritesFront};
 
 use crate::answer;
 use crate::device::TextDevice;

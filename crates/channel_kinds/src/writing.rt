@@ -2,7 +2,7 @@
 
 ghost use Rattle.std.specs.Prelude.{◌≡◌, true, OnOk};
 ghost use Rattle.std.specs.Io.KnownBytes.{Appends};
-ghost use Rattle.written.specs.Written.{WritesFront};
+ghost use Rattle.written.specs.claims.Written.{WritesFront};
 
 use crate::stream::Outlet;
 

@@ -4,7 +4,7 @@ ghost use Rattle.std.specs.Prelude.{◌≡◌, ◌≤◌, All, filter, length, m
 ghost use Rattle.std.specs.Prelude.{OnOk, Some};
 ghost use Rattle.std.specs.Str.{bytes_eq};
 ghost use Rattle.std.specs.Option.{option_map};
-ghost use Rattle.due_model.specs.Limits.{max_lanes};
+ghost use Rattle.due_model.specs.claims.Limits.{max_lanes};
 ghost use Rattle.channel_words.specs.Lanes.{AreFew, AreLanesOf, IsFirstNinth, IsUnknown};
 ghost use Rattle.channel_words.specs.Lanes.{NamesFail};
 ghost use Rattle.channel_words.specs.Lanes.{lane_named, names_of};

@@ -21,15 +21,16 @@ use Rattle.due_model.specs.declared.event.EventKind.TheVariants as event
 use Rattle.due_model.specs.declared.event.EventKind.TheVariants.{Clock}
 use Rattle.due_model.specs.declared.notice.Kind.{Kind}
 use Rattle.due_model.specs.declared.zone.Zone.{Zone}
-use Rattle.due_model.specs.Changes.{changes, delayed}
+use Rattle.due_model.specs.claims.Changes.{changes, delayed}
 use Rattle.due_model.specs.Choices.{own}
-use Rattle.due_model.specs.Dependencies.{dependency_fails, fails_at}
-use Rattle.due_model.specs.Escalations.{contacts_with, has_contact, reach}
-use Rattle.due_model.specs.Histories.{before, down_with_host, ended, ended_at, ended_within, host_holds, is_service_of, lapses, last_notice, notice_of, outcome_of, repeats, told_letters, with_repeat}
-use Rattle.due_model.specs.Periods.{in_period}
-use Rattle.due_model.specs.Receivers.{passes, receivers}
-use Rattle.due_model.specs.Readings.{began, begins, hard, is_problem_state, moment}
-use Rattle.due_model.specs.Rules.{contact_failing_by, failing_by, first_failing, has_come, has_letter, is_problem, is_recovery, letter_of, meets, same_state, state_letter, with_letter}
+use Rattle.due_model.specs.claims.Dependencies.{dependency_fails, fails_at}
+use Rattle.due_model.specs.claims.Escalations.{contacts_with, has_contact, reach}
+use Rattle.due_model.specs.claims.Histories.{before, down_with_host, ended, ended_at, ended_within, host_holds, is_service_of, lapses, last_notice, notice_of, outcome_of, repeats, told_letters, with_repeat}
+use Rattle.due_model.specs.claims.Periods.{in_period}
+use Rattle.due_model.specs.claims.Receivers.{passes, receivers}
+use Rattle.due_model.specs.claims.Readings.{begins, hard, is_problem_state, moment}
+use Rattle.due_model.specs.Readings.{began}
+use Rattle.due_model.specs.claims.Rules.{contact_failing_by, failing_by, first_failing, has_come, has_letter, is_problem, is_recovery, letter_of, meets, same_state, state_letter, with_letter}
 use Rattle.choice_rows.specs.Laws.{AllAreHeard, ChangesEndTheWait, DelaysRunFromChanges, KnowsNoChoice, LeavesAll, OwnRulesKnowNoChoice, TheClockDoesNothing, ToldLettersAreTaken, UnheardNoticesLeaveAll}
 
 or_last : (a : Bool) → (a || true) ≡ true

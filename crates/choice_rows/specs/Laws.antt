@@ -16,14 +16,15 @@ use Rattle.due_model.specs.declared.rules.View.{View}
 use Rattle.due_model.specs.declared.state.State.{State}
 use Rattle.due_model.specs.declared.state.StateSet.{StateSet}
 use Rattle.due_model.specs.declared.zone.Zone.{Zone}
-use Rattle.due_model.specs.Changes.{changes, delayed}
+use Rattle.due_model.specs.claims.Changes.{changes, delayed}
 use Rattle.due_model.specs.Choices.{own}
-use Rattle.due_model.specs.Dependencies.{dependency_fails, fails_at, has_state}
-use Rattle.due_model.specs.Escalations.{contacts_with, has_contact}
-use Rattle.due_model.specs.Histories.{depends_at, ended_at, host_holds, last_notice, notices_sent, outcome, repeats, timed, told_for, told_letters}
-use Rattle.due_model.specs.Readings.{began, hard, moment}
-use Rattle.due_model.specs.Receivers.{is_heard, others}
-use Rattle.due_model.specs.Rules.{contact_failing, failing, first_failing, in_own_contact_order, in_own_order, meets}
+use Rattle.due_model.specs.claims.Dependencies.{dependency_fails, fails_at, has_state}
+use Rattle.due_model.specs.claims.Escalations.{contacts_with, has_contact}
+use Rattle.due_model.specs.claims.Histories.{depends_at, ended_at, host_holds, last_notice, notices_sent, outcome, repeats, timed, told_for, told_letters}
+use Rattle.due_model.specs.claims.Readings.{hard, moment}
+use Rattle.due_model.specs.Readings.{began}
+use Rattle.due_model.specs.claims.Receivers.{is_heard, others}
+use Rattle.due_model.specs.claims.Rules.{contact_failing, failing, first_failing, in_own_contact_order, in_own_order, meets}
 
 -- A notice that doesn't count leaves number, wait and told letters as they were.
 pub record LeavesAll (x : Outcome) (history : List Outcome) : Type 0 where

@@ -22,8 +22,8 @@ use Rattle.due_model.specs.declared.state.State.{State}
 use Rattle.due_model.specs.declared.state.State.TheVariants as state
 use Rattle.due_model.specs.declared.state.StateSet.{StateSet}
 use Rattle.due_model.specs.declared.zone.Zone.TheVariants.{Utc}
-use Rattle.due_model.specs.Due.{due, sup}
-use Rattle.due_model.specs.Options.{every_letter}
+use Rattle.due_model.specs.claims.Due.{due, sup}
+use Rattle.due_model.specs.claims.Options.{every_letter}
 use Rattle.due_model.specs.Choices.{own}
 
 abbrev pub on_mail : Rights

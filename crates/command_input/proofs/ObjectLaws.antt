@@ -4,10 +4,11 @@ use Rattle.due_model.specs.declared.config.Choices.{Choices}
 use Rattle.due_model.specs.declared.config.Config.{Config}
 use Rattle.object_faults.specs.declared.load_fault.LoadFault.{LoadFault}
 use Rattle.object_faults.specs.declared.load_fault.LoadFault.TheVariants as load
-use Rattle.object_resolve.specs.Text.{IsTextFault}
-use Rattle.text_lines.specs.Lines.{Known}
+use Rattle.object_resolve.specs.claims.Text.{IsTextFault}
+use Rattle.text_lines.specs.claims.Lines.{Known}
 use Rattle.command_output.specs.Outcome.{fault_of}
-use Rattle.command_input.specs.Objects.{IsFaultBy, IsFileOf, GivesText, TextFails}
+use Rattle.command_input.specs.claims.Objects.{IsFaultBy}
+use Rattle.command_input.specs.Objects.{IsFileOf, GivesText, TextFails}
 use Rattle.text_lines.specs.Text.{rest_after, text_before, text_limit}
 
 text_fault : (choices : Choices) (mark : Option (List ℕ)) (fault : LoadFault) (text : List ℕ) (known after : Option (List ℕ)) → IsTextFault choices.text text fault

@@ -8,8 +8,9 @@ use Rattle.text_lines.specs.Text.{text_before}
 use Rattle.written.specs.WrittenLaws.{keeps_same}
 use Rattle.command_output.specs.declared.outcome.CommandFault.{CommandFault}
 use Rattle.command_output.specs.declared.outcome.CommandFault.TheVariants.{Objects, Unreadable, Output, NoMemory}
-use Rattle.command_output.specs.Outcome.{IsWriteFault}
-use Rattle.command_input.specs.Objects.{CommandFails, GivesObjects, IsTextBy, ObjectsFail, TextFails, feed_in, objects_in, objects_mark}
+use Rattle.command_output.specs.claims.Outcome.{IsWriteFault}
+use Rattle.command_input.specs.claims.Objects.{CommandFails, IsTextBy}
+use Rattle.command_input.specs.Objects.{GivesObjects, ObjectsFail, TextFails, feed_in, objects_in, objects_mark}
 
 -- ---- bytes that are known
 

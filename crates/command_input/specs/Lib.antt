@@ -1,3 +1,4 @@
+pub mod claims
 pub mod Objects
 pub mod InputLaws
 pub mod Zones

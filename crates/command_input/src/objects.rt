@@ -2,7 +2,7 @@
 
 ghost use Rattle.std.specs.Prelude.{◌≡◌, ◌<◌, IfErr, IfOk};
 ghost use Rattle.std.specs.Option.{option_copied};
-ghost use Rattle.due_model.specs.Accepted.{IsAccepted};
+ghost use Rattle.due_model.specs.claims.Accepted.{IsAccepted};
 ghost use Rattle.command_input.specs.Objects.{FileFails, GivesObjects, GivesText, IsFileOf};
 ghost use Rattle.command_input.specs.Objects.{ObjectsFail};
 ghost use Rattle.command_input.specs.Objects.{TextFails};

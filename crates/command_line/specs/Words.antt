@@ -11,7 +11,8 @@ use Rattle.clap.specs.declared.parser.matches.Found.{Found}
 use Rattle.clap.specs.Words.{App, Rule, new_app, new_rule, rows_of, subcommand_rows_of}
 use Rattle.clap.specs.Words.{with_rule}
 use Rattle.steps.specs.declared.settings.Settings.{Settings}
-use Rattle.steps.specs.Settings.{AreSettings, max_channels}
+use Rattle.steps.specs.claims.Settings.{AreSettings}
+use Rattle.steps.specs.Settings.{max_channels}
 use Rattle.clap.specs.declared.builder.value_parser.ValueParser.TheVariants.{Signed}
 use Rattle.command_line.specs.State.{IsStateOf, state_fault, with_state_options}
 use Rattle.command_line.specs.Check.{check_words, IsCheckOf, LacksCheck}

@@ -7,13 +7,13 @@ use Rattle.due_model.specs.declared.config.ContactId.{ContactId}
 use Rattle.due_model.specs.declared.notice.Suppression.{Suppression}
 use Rattle.messages.specs.declared.entries.Entry.{Entry}
 use Rattle.messages.specs.declared.entries.Entry.TheVariants.{Sent, Withheld}
-use Rattle.notice_text.specs.Names.{filter_name}
-use Rattle.command_output.specs.Fields.{field}
+use Rattle.notice_text.specs.claims.Names.{filter_name}
+use Rattle.command_output.specs.claims.Fields.{field}
 use Rattle.command_output.specs.LineHead.{contact_field, entry_end, entry_head, entry_letter, head_text, number_field, suppression_letter, suppression_number}
-use Rattle.command_output.specs.ReportLine.{head_fields, suppression_line_of}
-use Rattle.written.specs.Written.{Leaves, WritesFront}
+use Rattle.command_output.specs.claims.ReportLine.{head_fields, suppression_line_of}
+use Rattle.written.specs.claims.Written.{Leaves, WritesFront}
 use Rattle.written.specs.WrittenLaws.{front_begun, front_on, leaves_all, leaves_on}
-use Rattle.command_output.specs.OutputLine.{entries_text, entry_text}
+use Rattle.command_output.specs.claims.OutputLine.{entries_text, entry_text}
 
 -- ---- the parts of a line
 

@@ -1,7 +1,3 @@
-pub mod Fields
+pub mod claims
 pub mod LineHead
 pub mod Outcome
-pub mod OutputLine
-pub mod ReportLine
-pub mod RunLine
-pub mod TraceLine

@@ -7,10 +7,10 @@ use Rattle.due_model.specs.declared.notice.Suppression.{Suppression}
 use Rattle.messages.specs.declared.entries.Entry.{Entry}
 use Rattle.messages.specs.declared.entries.Entry.TheVariants.{Sent, Withheld}
 use Rattle.command_output.specs.declared.line_head.LineHead.{LineHead}
-use Rattle.command_output.specs.Fields.{field}
-use Rattle.command_output.specs.ReportLine.{head_fields}
-use Rattle.notice_text.specs.Names.{filter_name}
-use Rattle.notice_text.specs.Texts.{contact_text, lane_text, number_text}
+use Rattle.command_output.specs.claims.Fields.{field}
+use Rattle.command_output.specs.claims.ReportLine.{head_fields}
+use Rattle.notice_text.specs.claims.Names.{filter_name}
+use Rattle.notice_text.specs.claims.Texts.{contact_text, lane_text, number_text}
 
 -- ---- the letter
 

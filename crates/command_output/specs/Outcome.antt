@@ -1,5 +1,5 @@
 -- How a command ends: the text of what it fails with, and the exit status.
-use Rattle.std.specs.Prelude.{◌≡◌, ℕ, Bool, true, List, codes, ◌++◌, Result, Ok, Err}
+use Rattle.std.specs.Prelude.{ℕ, List, codes, ◌++◌, Result, Ok, Err}
 use Rattle.object_faults.specs.declared.load_fault.LoadFault.{LoadFault}
 use Rattle.object_faults.specs.declared.load_fault.LoadFault.TheVariants as load
 use Rattle.object_faults.specs.LoadFaults.{fault_text as load_text}
@@ -38,10 +38,3 @@ fault_status NoMemory = 4
 abbrev pub outcome_status : Result Ending CommandFault → ℕ
 outcome_status (Ok ending) = ending_status ending
 outcome_status (Err fault) = fault_status fault
-
--- a fault of the writing, to a writer that can fail or can't
-abbrev pub IsWriteFault : (can_fail : Bool) → CommandFault → Type 0
-IsWriteFault can_fail (Objects fault) = ⊥
-IsWriteFault can_fail Unreadable = ⊥
-IsWriteFault can_fail Output = can_fail ≡ true
-IsWriteFault can_fail NoMemory = Unit {0}

@@ -2,8 +2,8 @@
 
 ghost use Rattle.std.specs.Prelude.{◌≡◌, ◌+◌, ◌<◌, ◌≤◌, ◌++◌, decimal, drop};
 ghost use Rattle.std.specs.Prelude.{flat_map, length, OnOk};
-ghost use Rattle.command_output.specs.Fields.{after_comma, field, notice_mark, notices_text};
-ghost use Rattle.notice_text.specs.Texts.{contact_text, lane_text, number_text, object_text};
+ghost use Rattle.command_output.specs.claims.Fields.{after_comma, field, notice_mark, notices_text};
+ghost use Rattle.notice_text.specs.claims.Texts.{contact_text, lane_text, number_text, object_text};
 
 use due_model::config::{Config, ContactId, LaneId, ObjectId};
 use due_model::notice::Notice;

@@ -1,10 +1,10 @@
 //! What the lines of notices and suppressions begin with, after their letter. Lines of one event and object share it.
 
 ghost use Rattle.std.specs.Prelude.{◌≡◌, ◌++◌, true, IfSome, OnOk};
-ghost use Rattle.command_output.specs.Fields.{field};
+ghost use Rattle.command_output.specs.claims.Fields.{field};
 ghost use Rattle.command_output.specs.LineHead.{entry_head, head_text, notice_head};
 ghost use Rattle.command_output.specs.LineHead.{number_field, suppression_head, suppression_number};
-ghost use Rattle.notice_text.specs.Names.{kind_name, state_name};
+ghost use Rattle.notice_text.specs.claims.Names.{kind_name, state_name};
 
 use crate::fields::{push_field, push_notice_number, push_numbers, push_object};
 use due_model::config::{Config, ObjectId};
@@ -27,7 +27,7 @@ pub(crate) struct LineHead {
 }
 
 /// Adds the head of a line.
-#[tactic(auto, unfolding(crate::specs::ReportLine::head_fields))]
+#[tactic(auto, unfolding(crate::specs::claims::ReportLine::head_fields))]
 pub(crate) fn push_head(
     line: &mut Vec<u8>,
     config: &Config,

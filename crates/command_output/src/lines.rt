@@ -1,9 +1,9 @@
 //! The lines that a command writes: each is made, held back with others, and written.
 
 ghost use Rattle.std.specs.Prelude.{◌≡◌, [], ◌++◌, IfErr, IfOk, OnOk};
-ghost use Rattle.command_output.specs.Outcome.{IsWriteFault};
-ghost use Rattle.written.specs.Written.{Leaves, WritesFront};
-ghost use Rattle.command_output.specs.OutputLine.{entries_text, line_text};
+ghost use Rattle.command_output.specs.claims.Outcome.{IsWriteFault};
+ghost use Rattle.written.specs.claims.Written.{Leaves, WritesFront};
+ghost use Rattle.command_output.specs.claims.OutputLine.{entries_text, line_text};
 
 use crate::outcome::CommandFault;
 use crate::output::Buffer;

@@ -2,7 +2,7 @@
 
 ghost use Rattle.std.specs.Prelude.{◌≡◌, ◌+◌, ◌≤◌, [], ◌++◌, length, vec_len};
 ghost use Rattle.std.specs.Prelude.{vec_capacity, false, IfOk, IsOk, OnOk};
-ghost use Rattle.written.specs.Written.{Leaves, WritesFront};
+ghost use Rattle.written.specs.claims.Written.{Leaves, WritesFront};
 
 use crate::sink::Sink;
 use std::alloc::{AllocError, Global};

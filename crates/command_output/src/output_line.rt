@@ -2,7 +2,7 @@
 
 ghost use Rattle.std.specs.Prelude.{◌≡◌, ◌++◌, OnOk};
 ghost use Rattle.command_output.specs.LineHead.{entry_head, head_text};
-ghost use Rattle.command_output.specs.OutputLine.{entries_text, line_text};
+ghost use Rattle.command_output.specs.claims.OutputLine.{entries_text, line_text};
 
 use crate::line_head::{entry_head, make_head, push_head};
 use crate::report_line::{push_entry, push_entry_after, push_refused};

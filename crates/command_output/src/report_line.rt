@@ -1,10 +1,10 @@
 //! The lines of a report: a notice, a suppression, a refused line.
 
 ghost use Rattle.std.specs.Prelude.{◌≡◌, [], ◌∷◌, ◌++◌, decimal, OnOk};
-ghost use Rattle.command_output.specs.Fields.{field};
+ghost use Rattle.command_output.specs.claims.Fields.{field};
 ghost use Rattle.command_output.specs.LineHead.{contact_field, entry_end, entry_head, entry_letter};
 ghost use Rattle.command_output.specs.LineHead.{head_text, notice_end, suppression_end};
-ghost use Rattle.command_output.specs.OutputLine.{entry_text};
+ghost use Rattle.command_output.specs.claims.OutputLine.{entry_text};
 
 use crate::fields::{push_contact, push_field, push_lane, push_number};
 use crate::line_head::{entry_head, push_head};

@@ -2,7 +2,7 @@
 //! closed.
 
 ghost use Rattle.std.specs.Prelude.{◌≡◌, [], ◌∷◌, ◌++◌, OnOk};
-ghost use Rattle.command_output.specs.RunLine.{channel_line, closed_line, letter_line, why_name};
+ghost use Rattle.command_output.specs.claims.RunLine.{channel_line, closed_line, letter_line, why_name};
 
 use crate::fields::{push_contact, push_field, push_lane, push_number, push_object};
 use due_model::config::{Config, LaneId};

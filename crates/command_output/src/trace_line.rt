@@ -1,7 +1,7 @@
 //! The lines of a trace beside those of refused lines: why a step line is refused, and what a lane holds.
 
 ghost use Rattle.std.specs.Prelude.{◌≡◌, ◌++◌, OnOk};
-ghost use Rattle.command_output.specs.TraceLine.{lane_line, list_fields, refusal_name};
+ghost use Rattle.command_output.specs.claims.TraceLine.{lane_line, list_fields, refusal_name};
 
 use crate::fields::{push_lane, push_notices, push_object};
 use due_model::config::{Config, LaneId, ObjectId};
@@ -47,7 +47,7 @@ impl StepRefusal {
 }
 
 /// Adds the five lists.
-#[tactic(auto, unfolding(crate::specs::TraceLine::list_fields))]
+#[tactic(auto, unfolding(crate::specs::claims::TraceLine::list_fields))]
 fn push_lists(line: &mut Vec<u8>, config: &Config, held: &LaneLine<'_>) -> Result<(), AllocError>
     ensures { OnOk result (line.new.items ≡ line.old.items ++ list_fields config.now
         held.now.taken.now held.now.hand.now held.now.undelivered.now held.now.queue.now

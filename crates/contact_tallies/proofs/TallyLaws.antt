@@ -12,7 +12,7 @@ use Rattle.due_model.specs.declared.config.ContactId.{ContactId}
 use Rattle.due_model.specs.declared.config.ObjectId.{ObjectId}
 use Rattle.due_model.specs.declared.notice.Notice.{Notice}
 use Rattle.due_model.specs.declared.zone.Zone.{Zone}
-use Rattle.due_model.specs.Limits.{last_moment}
+use Rattle.due_model.specs.claims.Limits.{last_moment}
 use Rattle.contact_tallies.specs.declared.heard.Told.{Told}
 use Rattle.contact_tallies.specs.declared.tallies.Tallies.{Tallies}
 use Rattle.contact_tallies.specs.declared.tallies.Tally.{Tally}

@@ -9,9 +9,9 @@ use Rattle.due_model.specs.declared.notice.Kind.{Kind}
 use Rattle.due_model.specs.declared.notice.Kind.TheVariants.{Problem, Recovery}
 use Rattle.due_model.specs.declared.notice.Notice.{Notice}
 use Rattle.due_model.specs.declared.zone.Zone.{Zone}
-use Rattle.due_model.specs.Limits.{last_moment}
-use Rattle.due_model.specs.Local.{local}
-use Rattle.due_model.specs.Readings.{is_ok_state}
+use Rattle.due_model.specs.claims.Limits.{last_moment}
+use Rattle.due_model.specs.claims.Local.{local}
+use Rattle.due_model.specs.claims.Readings.{is_ok_state}
 
 -- what counts of a feed: a notice is given, or a problem of an object ends
 pub data Mark : Type 0 where

@@ -5,7 +5,7 @@ use Rattle.due_model.specs.declared.notice.Notice.{Notice}
 use Rattle.due_model.specs.declared.zone.Zone.{Zone}
 use Rattle.contact_tallies.specs.declared.tallies.Tallies.{Tallies}
 use Rattle.contact_tallies.specs.declared.tallies.Tally.{Tally}
-use Rattle.due_model.specs.Limits.{last_moment}
+use Rattle.due_model.specs.claims.Limits.{last_moment}
 use Rattle.contact_tallies.specs.declared.heard.Told.{Told}
 use Rattle.contact_tallies.specs.Heard.{heard, told_after, told_of}
 use Rattle.contact_tallies.specs.Marks.{Mark, counted, is_night, is_night_page, is_of_problem, is_page, last_told, longest, since}

@@ -2,7 +2,7 @@
 
 ghost use Rattle.std.specs.Prelude.{◌≡◌, ◌<◌, ◌≤◌, ◌∷◌, ℕ, List, [], replicate, IfOk, OnOk};
 ghost use Rattle.due_model.specs.declared.zone.Zone.{Zone};
-ghost use Rattle.due_model.specs.Limits.{last_moment};
+ghost use Rattle.due_model.specs.claims.Limits.{last_moment};
 ghost use Rattle.contact_tallies.specs.Marks.{Given, Mark, is_night, is_of_problem, marks_after};
 ghost use Rattle.contact_tallies.specs.Marks.{recovered, since};
 ghost use Rattle.contact_tallies.specs.Tallies.{AreTallies, counted_in, no_tally, silence_in, tallies_of};

@@ -15,8 +15,8 @@ use Rattle.jiff_tz.specs.Year.{year_of_day}
 use Rattle.jiff_tz.proofs.YearLemmas.{year_of_day-date}
 use Rattle.due_model.specs.declared.config.DayRule.{DayRule}
 use Rattle.due_model.specs.declared.config.DayRule.TheVariants as rule
-use Rattle.due_model.specs.Days.{day_from, is_date, is_day_of, is_nth, is_nth_in, months, names_day, year_at}
-use Rattle.due_model.specs.Local.{Local, weekday_at}
+use Rattle.due_model.specs.claims.Days.{day_from, is_date, is_day_of, is_nth, is_nth_in, months, names_day, year_at}
+use Rattle.due_model.specs.claims.Local.{Local, weekday_at}
 use Rattle.day_rules.specs.Dates.{fits}
 
 -- ---- booleans

@@ -5,8 +5,8 @@ use Rattle.jiff_core.specs.declared.civil.date.Date.{Date}
 use Rattle.jiff_core.specs.Date.{epoch_day, month_length}
 use Rattle.due_model.specs.declared.config.DayRule.{DayRule}
 use Rattle.due_model.specs.declared.config.DayRule.TheVariants as rule
-use Rattle.due_model.specs.Days.{day_from, is_nth}
-use Rattle.due_model.specs.Local.{Local}
+use Rattle.due_model.specs.claims.Days.{day_from, is_nth}
+use Rattle.due_model.specs.claims.Local.{Local}
 use Rattle.day_rules.specs.declared.calendar_time.CalendarTime.{CalendarTime}
 
 -- the local time

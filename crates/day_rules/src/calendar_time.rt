@@ -21,8 +21,8 @@ pub struct CalendarTime {
 }
 
 impl CalendarTime {
-    ghost use Rattle.due_model.specs.Days.{names_day};
-    ghost use Rattle.due_model.specs.Local.{weekday_at};
+    ghost use Rattle.due_model.specs.claims.Days.{names_day};
+    ghost use Rattle.due_model.specs.claims.Local.{weekday_at};
     ghost use Rattle.day_rules.specs.Dates.{fits, shown};
 
     /// The time at a second of the day that is so many days after 1970-01-01, or before it where the number is negative. The

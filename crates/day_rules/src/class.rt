@@ -1,7 +1,7 @@
 //! The classes of rules, of which the least decides.
 
 ghost use Rattle.std.specs.Prelude.{◌≡◌};
-ghost use Rattle.due_model.specs.Days.{class_of};
+ghost use Rattle.due_model.specs.claims.Days.{class_of};
 
 use due_model::config::DayRule;
 

@@ -2,7 +2,7 @@
 
 ghost use Rattle.std.specs.Prelude.{◌≡◌, ◌+◌, ◌*◌, ◌&&◌, ◌==◌, nat_le, nat_lt};
 ghost use Rattle.jiff_core.specs.Date.{month_length};
-ghost use Rattle.due_model.specs.Days.{day_from, is_nth};
+ghost use Rattle.due_model.specs.claims.Days.{day_from, is_nth};
 
 use jiff_core::civil::{Date, days_in_month};
 

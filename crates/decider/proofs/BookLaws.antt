@@ -12,16 +12,18 @@ use Rattle.due_model.specs.declared.event.EventKind.{EventKind}
 use Rattle.due_model.specs.declared.event.EventKind.TheVariants as event
 use Rattle.due_model.specs.declared.zone.Zone.{Zone}
 use Rattle.due_model.specs.declared.notice.Outcome.TheVariants.{Nothing}
-use Rattle.due_model.specs.Histories.{hist, repeats}
-use Rattle.due_model.specs.Readings.{moment}
-use Rattle.messages.specs.Entries.{object_entries, outcome_entries}
-use Rattle.problem_count.specs.Book.{BookValues, new_book}
-use Rattle.problem_count.specs.Fits.{BookFits, book_of, outcome_at}
+use Rattle.due_model.specs.claims.Histories.{hist, repeats}
+use Rattle.due_model.specs.claims.Readings.{moment}
+use Rattle.messages.specs.claims.Entries.{object_entries, outcome_entries}
+use Rattle.problem_count.specs.claims.Book.{BookValues, new_book}
+use Rattle.problem_count.specs.claims.Fits.{BookFits, book_of}
+use Rattle.problem_count.specs.Fits.{outcome_at}
 use Rattle.problem_count.specs.Laws.{UntouchedFit, touches}
 use Rattle.decider.specs.declared.share.Share.{Share}
 use Rattle.decider.specs.declared.staging.NewBook.{NewBook}
-use Rattle.decider.specs.Books.{BooksFit, book_after, is_touched, new_books, settled, share_books}
-use Rattle.decider.specs.Share.{is_owned}
+use Rattle.decider.specs.claims.Books.{BooksFit}
+use Rattle.decider.specs.Books.{book_after, is_touched, new_books, settled, share_books}
+use Rattle.decider.specs.claims.Share.{is_owned}
 use Rattle.decider.specs.Statuses.{named_by}
 use Rattle.decider.proofs.SettleLaws.{AtMostOne, book_decided, length-settled, settled_at}
 

@@ -7,22 +7,25 @@ use Rattle.due_model.specs.declared.event.Event.{Event}
 use Rattle.due_model.specs.declared.notice.Suppression.{Suppression}
 use Rattle.due_model.specs.declared.rules.ObjectStatus.{ObjectStatus}
 use Rattle.due_model.specs.declared.zone.Zone.{Zone}
-use Rattle.due_model.specs.Limits.{max_events}
-use Rattle.due_model.specs.Proper.{IsProper}
-use Rattle.due_model.specs.Readings.{moment, switch_after}
-use Rattle.due_times.specs.Index.{Due}
-use Rattle.problem_count.specs.Book.{BookValues}
+use Rattle.due_model.specs.claims.Limits.{max_events}
+use Rattle.due_model.specs.claims.Proper.{IsProper}
+use Rattle.due_model.specs.claims.Readings.{moment, switch_after}
+use Rattle.due_times.specs.claims.Index.{Due}
+use Rattle.problem_count.specs.claims.Book.{BookValues}
 use Rattle.problem_count.specs.Laws.{UntouchedFit}
-use Rattle.time_period.specs.Days.{Worked}
+use Rattle.time_period.specs.claims.Days.{Worked}
 use Rattle.decider.specs.Books.{share_books}
 use Rattle.decider.specs.declared.reading.EventContext.{EventContext}
 use Rattle.decider.specs.declared.staging.NewBook.{NewBook}
 use Rattle.decider.specs.Events.{IsAt, Values}
-use Rattle.decider.specs.Fits.{Fits, Kept, context_of, kept_after, values_at}
-use Rattle.decider.specs.Ready.{HasRoom, IsIndexAfter, judged}
+use Rattle.decider.specs.claims.Fits.{Fits, Kept}
+use Rattle.decider.specs.Fits.{context_of, kept_after, values_at}
+use Rattle.decider.specs.claims.Ready.{judged}
+use Rattle.decider.specs.Ready.{HasRoom, IsIndexAfter}
 use Rattle.decider.proofs.BookLaws.{books_fit}
 use Rattle.decider.proofs.ReadyLaws.{handed, index_after, room_for}
-use Rattle.decider.specs.Statuses.{named_by, status_at}
+use Rattle.decider.specs.claims.Statuses.{status_at}
+use Rattle.decider.specs.Statuses.{named_by}
 use Rattle.decider.proofs.StatusLaws.{depth_few, named_within, statuses_fit}
 
 module _ (k : Kept) (e : Event) (past : List Event) (fits : Fits k past) (proper : IsProper k.config e) where

@@ -11,13 +11,14 @@ use Rattle.due_model.specs.declared.rules.ObjectStatus.{ObjectStatus}
 use Rattle.due_model.specs.declared.state.State.{State}
 use Rattle.due_model.specs.declared.state.State.TheVariants.{Pending}
 use Rattle.due_model.specs.declared.zone.Zone.{Zone}
-use Rattle.due_model.specs.Histories.{repeats}
-use Rattle.due_model.specs.Readings.{hard, hard_after, is_problem_state, moment}
-use Rattle.due_model.specs.Rules.{same_state}
+use Rattle.due_model.specs.claims.Histories.{repeats}
+use Rattle.due_model.specs.claims.Readings.{hard, hard_after, is_problem_state, moment}
+use Rattle.due_model.specs.claims.Rules.{same_state}
 use Rattle.dependency.specs.Entry.{state_of}
 use Rattle.lemmas.proofs.Writes.{at_set}
 use Rattle.decider.specs.Found.{depends_by, names}
-use Rattle.decider.specs.Statuses.{StatusLists, StatusesFit, hard_by, named_by}
+use Rattle.decider.specs.claims.Statuses.{StatusLists, StatusesFit}
+use Rattle.decider.specs.Statuses.{hard_by, named_by}
 
 -- an event that gives no hard state leaves them all
 no_hard : (k : EventKind) → hard_by k ≡ None → (m : ℕ) (x : State) → hard_after m k x ≡ x

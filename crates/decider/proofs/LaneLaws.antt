@@ -14,19 +14,20 @@ use Rattle.due_model.specs.declared.notice.Outcome.{Outcome}
 use Rattle.due_model.specs.declared.notice.Outcome.TheVariants as outcome
 use Rattle.due_model.specs.declared.notice.Suppression.{Suppression}
 use Rattle.due_model.specs.declared.zone.Zone.{Zone}
-use Rattle.due_model.specs.Due.{due_at, notice_to, notices, refusal_of, suppressed_at, suppressions}
-use Rattle.due_model.specs.Receivers.{receivers}
-use Rattle.due_model.specs.Histories.{hist, outcome as outcome_of}
+use Rattle.due_model.specs.claims.Due.{due_at, notice_to, notices, refusal_of, suppressed_at, suppressions}
+use Rattle.due_model.specs.claims.Receivers.{receivers}
+use Rattle.due_model.specs.claims.Histories.{hist, outcome as outcome_of}
 use Rattle.due_model.specs.declared.options.OptionLetters.{OptionLetters}
 use Rattle.due_model.specs.declared.rules.Attempt.{Attempt}
 use Rattle.lemmas.proofs.Notices.{notice_to_cases}
 use Rattle.messages.specs.declared.entries.Entry.{Entry}
 use Rattle.messages.specs.declared.entries.Entry.TheVariants.{Sent, Withheld}
 use Rattle.decider.specs.declared.share.Share.{Share}
-use Rattle.decider.specs.Decider.{gain, gained, suppressed_gain, suppressed_gained}
-use Rattle.messages.specs.Entries.{contact_entries, event_entries, is_on, notice_in, notices_in, notices_on, object_entries, outcome_entries, suppression_in, suppressions_in}
+use Rattle.decider.specs.claims.Decider.{gain, gained, suppressed_gain, suppressed_gained}
+use Rattle.messages.specs.claims.Entries.{contact_entries, event_entries, object_entries, outcome_entries}
+use Rattle.messages.specs.Entries.{is_on, notice_in, notices_in, notices_on, suppression_in, suppressions_in}
 use Rattle.decider.specs.Entries.{share_entries}
-use Rattle.decider.specs.Share.{IsShare, is_owned, owned_numbers}
+use Rattle.decider.specs.claims.Share.{IsShare, is_owned, owned_numbers}
 use Rattle.lemmas.proofs.Numbers.{flat_flat, flat_alike, flat_nothing}
 
 -- ---- lists of lists

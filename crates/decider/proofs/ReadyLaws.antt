@@ -16,16 +16,17 @@ use Rattle.due_model.specs.declared.event.Event.{Event}
 use Rattle.due_model.specs.declared.event.EventKind.{EventKind}
 use Rattle.due_model.specs.declared.event.EventKind.TheVariants as event
 use Rattle.due_model.specs.declared.zone.Zone.{Zone}
-use Rattle.due_model.specs.Accepted.{IsAccepted}
-use Rattle.due_model.specs.Histories.{ready, ready_or, repeats}
-use Rattle.due_model.specs.Limits.{max_events}
-use Rattle.due_model.specs.Changes.{delayed}
-use Rattle.due_model.specs.Readings.{hard, is_problem_state, moment}
-use Rattle.due_model.specs.Rules.{has_come}
-use Rattle.due_times.specs.Index.{Due, IsNextDue, NoneIsDueFrom, Sets, at, due_count}
+use Rattle.due_model.specs.claims.Accepted.{IsAccepted}
+use Rattle.due_model.specs.claims.Histories.{ready, ready_or, repeats}
+use Rattle.due_model.specs.claims.Limits.{max_events}
+use Rattle.due_model.specs.claims.Changes.{delayed}
+use Rattle.due_model.specs.claims.Readings.{hard, is_problem_state, moment}
+use Rattle.due_model.specs.claims.Rules.{has_come}
+use Rattle.due_times.specs.claims.Index.{Due, at}
+use Rattle.due_times.specs.Index.{IsNextDue, NoneIsDueFrom, Sets, due_count}
 use Rattle.lemmas.proofs.Numbers.{below_more, flat_below, flat_more}
-use Rattle.messages.specs.Entries.{object_entries}
-use Rattle.problem_count.specs.Fits.{book_of, problem, released_after}
+use Rattle.messages.specs.claims.Entries.{object_entries}
+use Rattle.problem_count.specs.claims.Fits.{book_of, problem, released_after}
 use Rattle.problem_count.specs.Laws.{UntouchedFit, touches}
 use Rattle.decider.specs.declared.share.Share.{Share}
 use Rattle.decider.specs.declared.staging.NewBook.{NewBook}
@@ -34,8 +35,9 @@ use Rattle.decider.specs.declared.staging.Staged.{Staged}
 use Rattle.decider.specs.Entries.{share_entries}
 use Rattle.decider.specs.Events.{IsAt, Values}
 use Rattle.decider.specs.Staging.{Adds}
-use Rattle.decider.specs.Ready.{HasRoom, IndexFits, IsIndexAfter, entry_decided, handed_after, is_clock, is_ready, judged, left_after, ready_of}
-use Rattle.decider.specs.Share.{is_owned, owned_numbers}
+use Rattle.decider.specs.claims.Ready.{IndexFits, is_clock, is_ready, judged, ready_of}
+use Rattle.decider.specs.Ready.{HasRoom, IsIndexAfter, entry_decided, handed_after, left_after}
+use Rattle.decider.specs.claims.Share.{is_owned, owned_numbers}
 use Rattle.decider.proofs.BookLaws.{after_is, no_books, no_entries, one, touched_books, untouched}
 use Rattle.decider.proofs.SettleLaws.{AtMostOne}
 use Rattle.lemmas.proofs.Lists.{some_at}

@@ -11,23 +11,24 @@ use Rattle.due_model.specs.declared.event.EventKind.{EventKind}
 use Rattle.due_model.specs.declared.event.EventKind.TheVariants as event
 use Rattle.due_model.specs.declared.notice.Outcome.{Outcome}
 use Rattle.due_model.specs.declared.rules.ObjectStatus.{ObjectStatus}
-use Rattle.due_model.specs.Limits.{last_moment}
+use Rattle.due_model.specs.claims.Limits.{last_moment}
 use Rattle.due_model.specs.declared.config.Config.{Config}
 use Rattle.due_model.specs.declared.notice.Outcome.TheVariants.{Nothing, Sent, Suppressed}
 use Rattle.due_model.specs.declared.state.State.{State}
-use Rattle.due_model.specs.Accepted.{IsAccepted, IsHost, ObjectFits}
-use Rattle.due_model.specs.Histories.{repeats}
-use Rattle.due_model.specs.Readings.{hard, hard_after, is_problem_state, moment}
-use Rattle.due_model.specs.Rules.{same_state}
+use Rattle.due_model.specs.claims.Accepted.{IsAccepted, IsHost, ObjectFits}
+use Rattle.due_model.specs.claims.Histories.{repeats}
+use Rattle.due_model.specs.claims.Readings.{hard, hard_after, is_problem_state, moment}
+use Rattle.due_model.specs.claims.Rules.{same_state}
 use Rattle.lemmas.proofs.Numbers.{flat_below, flat_more, flat_none, flat_one, flat_two}
 use Rattle.lemmas.proofs.Lists.{All-slice_get}
 use Rattle.messages.specs.declared.entries.Entry.{Entry}
-use Rattle.messages.specs.Entries.{object_entries, outcome_entries}
+use Rattle.messages.specs.claims.Entries.{object_entries, outcome_entries}
 use Rattle.outcomes.specs.declared.found.Found.{Found}
 use Rattle.outcomes.specs.Found.{IsFound}
 use Rattle.outcomes.specs.Outcome.{with_heard}
-use Rattle.problem_count.specs.Book.{BookValues, new_book}
-use Rattle.problem_count.specs.Fits.{BookFits, book_of, outcome_at}
+use Rattle.problem_count.specs.claims.Book.{BookValues, new_book}
+use Rattle.problem_count.specs.claims.Fits.{BookFits, book_of}
+use Rattle.problem_count.specs.Fits.{outcome_at}
 use Rattle.problem_count.specs.Laws.{CountsAreFew, RepeatsRun, UntouchedFit, touches}
 use Rattle.decider.specs.declared.reading.Reading.{Reading}
 use Rattle.decider.specs.declared.staging.NewBook.{NewBook}
@@ -35,9 +36,10 @@ use Rattle.decider.specs.declared.staging.Staged.{Staged}
 use Rattle.decider.specs.Books.{book_after, is_touched, new_books, share_books}
 use Rattle.decider.specs.Entries.{share_entries}
 use Rattle.decider.specs.Events.{IsAt, Values, values}
-use Rattle.decider.specs.Share.{is_owned}
+use Rattle.decider.specs.claims.Share.{is_owned}
 use Rattle.decider.specs.Staging.{Adds, ArePair}
-use Rattle.decider.specs.Statuses.{StatusLists, hard_by, named_by}
+use Rattle.decider.specs.claims.Statuses.{StatusLists}
+use Rattle.decider.specs.Statuses.{hard_by, named_by}
 use Rattle.decider.proofs.BookLaws.{no_books, no_entries, touches_other, touches_own}
 use Rattle.decider.proofs.StatusLaws.{depth_few, named_within}
 

@@ -15,11 +15,12 @@ use Rattle.due_model.specs.declared.rules.ObjectStatus.{ObjectStatus}
 use Rattle.due_model.specs.declared.state.State.{State}
 use Rattle.due_model.specs.declared.state.State.TheVariants.{Pending}
 use Rattle.due_model.specs.Acknowledgements.{ack_after, kept_in_state}
-use Rattle.due_model.specs.Histories.{status_after}
-use Rattle.due_model.specs.Proper.{IsProper, KindIsProper}
-use Rattle.due_model.specs.Readings.{depth, depth_after, depth_changed, flapping, hard, is_problem_state, switched, switched_after}
+use Rattle.due_model.specs.claims.Histories.{status_after}
+use Rattle.due_model.specs.claims.Proper.{IsProper, KindIsProper}
+use Rattle.due_model.specs.claims.Readings.{depth, depth_after, depth_changed, flapping, hard, is_problem_state, switched, switched_after}
 use Rattle.lemmas.proofs.Acknowledgements.{acknowledgement_after}
-use Rattle.decider.specs.Statuses.{StatusLists, StatusesFit, named_by, no_statuses, status_at, status_by, statuses_after, with_ack, with_depth, with_flapping, with_state, with_status, with_switch}
+use Rattle.decider.specs.claims.Statuses.{StatusLists, StatusesFit, status_at}
+use Rattle.decider.specs.Statuses.{named_by, no_statuses, status_by, statuses_after, with_ack, with_depth, with_flapping, with_state, with_status, with_switch}
 
 -- ---- one status of a list
 

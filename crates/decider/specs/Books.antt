@@ -1,26 +1,18 @@
 -- The books that are kept, and those after an event.
-use Rattle.std.specs.Prelude.{◌≡◌, ℕ, true, Bool, ◌||◌, List, [], ◌∷◌, length, flat_map, slice_get, slice_set, slice_index_or, Some, if◌then◌else◌}
+use Rattle.std.specs.Prelude.{ℕ, Bool, ◌||◌, List, [], ◌∷◌, length, flat_map, slice_get, slice_set, if◌then◌else◌}
 use Rattle.std.specs.Option.{option_map_or}
 use Rattle.due_model.specs.declared.config.Config.{Config}
 use Rattle.due_model.specs.declared.config.Object.{Object}
 use Rattle.due_model.specs.declared.event.Event.{Event}
 use Rattle.due_model.specs.declared.zone.Zone.{Zone}
-use Rattle.due_model.specs.Histories.{repeats}
-use Rattle.due_model.specs.Readings.{moment}
-use Rattle.problem_count.specs.Book.{BookValues, new_book}
-use Rattle.problem_count.specs.Fits.{BookFits, book_of}
+use Rattle.due_model.specs.claims.Histories.{repeats}
+use Rattle.due_model.specs.claims.Readings.{moment}
+use Rattle.problem_count.specs.claims.Book.{BookValues}
+use Rattle.problem_count.specs.claims.Fits.{book_of}
 use Rattle.problem_count.specs.Laws.{touches}
 use Rattle.decider.specs.declared.share.Share.{Share}
 use Rattle.decider.specs.declared.staging.NewBook.{NewBook}
-use Rattle.decider.specs.Share.{is_owned, owned_numbers}
-
--- There is a book for each object, and that of each object of the share fits this past.
-pub record BooksFit (c : Config) (zone : Zone) (share : Share) (past : List Event)
-    (books : List BookValues) : Type 0 where
-  pub count : length books ≡ length c.objects
-  pub each : (o : ℕ) (settings : Object) → slice_get c.objects o ≡ Some settings
-      → is_owned share o ≡ true
-      → BookFits c zone o settings past (slice_index_or books o new_book)
+use Rattle.decider.specs.claims.Share.{owned_numbers}
 
 -- the book of object o after an event
 abbrev pub book_after : Config → Zone → Event → List Event → (o : ℕ) → List NewBook

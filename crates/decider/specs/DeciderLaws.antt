@@ -6,8 +6,8 @@ use Rattle.due_model.specs.declared.config.Object.{Object}
 use Rattle.due_model.specs.declared.event.Event.{Event}
 use Rattle.due_model.specs.declared.notice.Notice.{Notice}
 use Rattle.due_model.specs.declared.zone.Zone.{Zone}
-use Rattle.due_model.specs.Due.{due, due_at, due_for}
-use Rattle.decider.specs.Decider.{gain}
+use Rattle.due_model.specs.claims.Due.{due, due_at, due_for}
+use Rattle.decider.specs.claims.Decider.{gain}
 
 -- what is due after one more event
 pub due_more : (c : Config) (zone : Zone) (o l : ℕ) (e : Event) (past : List Event) → due c zone o l (e ∷ past) ≡ due c zone o l past ++ gain c zone l e past o

@@ -4,9 +4,9 @@ use Rattle.due_model.specs.declared.config.Config.{Config}
 use Rattle.due_model.specs.declared.event.Event.{Event}
 use Rattle.due_model.specs.declared.zone.Zone.{Zone}
 use Rattle.messages.specs.declared.entries.Entry.{Entry}
-use Rattle.messages.specs.Entries.{object_entries}
+use Rattle.messages.specs.claims.Entries.{object_entries}
 use Rattle.decider.specs.declared.share.Share.{Share}
-use Rattle.decider.specs.Share.{owned_numbers}
+use Rattle.decider.specs.claims.Share.{owned_numbers}
 
 -- what an event adds for the objects of a share, in number order
 abbrev pub share_entries : Config → Zone → Share → Event → List Event → List Entry

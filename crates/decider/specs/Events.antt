@@ -3,30 +3,19 @@ use Rattle.std.specs.Prelude.{◌≡◌, ℕ, ◌<◌, ◌≤◌, List, ◌∷�
 use Rattle.due_model.specs.declared.config.Config.{Config}
 use Rattle.due_model.specs.declared.event.Event.{Event}
 use Rattle.due_model.specs.declared.zone.Zone.{Zone}
-use Rattle.due_model.specs.Accepted.{IsAccepted}
-use Rattle.due_model.specs.Limits.{last_moment, max_events}
-use Rattle.due_model.specs.Proper.{IsProper}
-use Rattle.due_model.specs.Readings.{moment as moment_of, program_on}
-use Rattle.due_times.specs.Index.{Due}
-use Rattle.problem_count.specs.Book.{BookValues}
-use Rattle.time_period.specs.Days.{AreCompiled, Worked}
+use Rattle.due_model.specs.claims.Accepted.{IsAccepted}
+use Rattle.due_model.specs.claims.Limits.{last_moment, max_events}
+use Rattle.due_model.specs.claims.Proper.{IsProper}
+use Rattle.due_model.specs.claims.Readings.{moment as moment_of, program_on}
+use Rattle.due_times.specs.claims.Index.{Due}
+use Rattle.problem_count.specs.claims.Book.{BookValues}
 use Rattle.decider.specs.declared.reading.EventContext.{EventContext}
 use Rattle.decider.specs.declared.reading.Reading.{Reading}
 use Rattle.decider.specs.declared.share.Share.{Share}
-use Rattle.decider.specs.Books.{BooksFit}
-use Rattle.decider.specs.Ready.{IndexFits}
-use Rattle.decider.specs.Statuses.{StatusLists, StatusesFit}
-
--- what is worked out of a configuration once
-pub record TableValues : Type 0 where
-  pub periods : List Worked
-  -- among so many objects the search of dependencies goes
-  pub searched : ℕ
-
--- it is worked out of this one
-pub record AreTables (c : Config) (tables : TableValues) : Type 0 where
-  pub compiled : AreCompiled c tables.periods
-  pub searched : tables.searched ≡ length c.objects
+use Rattle.decider.specs.claims.Books.{BooksFit}
+use Rattle.decider.specs.claims.Ready.{IndexFits}
+use Rattle.decider.specs.claims.Statuses.{StatusLists, StatusesFit}
+use Rattle.decider.specs.claims.Events.{TableValues, AreTables}
 
 -- all that is read
 pub record Values : Type 0 where

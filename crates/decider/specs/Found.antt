@@ -4,8 +4,8 @@ use Rattle.due_model.specs.declared.config.Config.{Config}
 use Rattle.due_model.specs.declared.config.ObjectId.{ObjectId}
 use Rattle.due_model.specs.declared.state.State.{State}
 use Rattle.due_model.specs.declared.zone.Zone.{Zone}
-use Rattle.due_model.specs.Dependencies.{dependency_fails}
-use Rattle.due_model.specs.Readings.{hard, is_problem_state}
+use Rattle.due_model.specs.claims.Dependencies.{dependency_fails}
+use Rattle.due_model.specs.claims.Readings.{hard, is_problem_state}
 use Rattle.due_model.specs.declared.event.Event.{Event}
 
 -- whether a notification dependency of the host of a service fails, where that counts

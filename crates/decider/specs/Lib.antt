@@ -1,4 +1,4 @@
-pub mod Share
+pub mod claims
 pub mod Statuses
 pub mod Found
 pub mod Books
@@ -8,6 +8,5 @@ pub mod Staging
 pub mod Entries
 pub mod Log
 pub mod Outbox
-pub mod Decider
 pub mod Fits
 pub mod DeciderLaws

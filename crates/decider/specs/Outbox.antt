@@ -1,18 +1,10 @@
 -- An outbox as a list of notices for each lane.
-use Rattle.std.specs.Prelude.{ℕ, ◌-◌, ◌<◌, ◌≤◌, List, [], length, filter, map, slice_index_or}
-use Rattle.std.specs.VecDeque.{deque_items, deque_len, deque_capacity}
-use Rattle.due_model.specs.declared.notice.Notice.{Notice}
+use Rattle.std.specs.Prelude.{ℕ, ◌-◌, ◌<◌, ◌≤◌, List, length, filter, map, slice_index_or}
+use Rattle.std.specs.VecDeque.{deque_len, deque_capacity}
 use Rattle.messages.specs.declared.entries.Entry.{Entry}
 use Rattle.decider.specs.declared.outbox.Outbox.{Outbox}
 use Rattle.messages.specs.Entries.{is_for}
-
--- the notices that wait, lane by lane, the oldest first
-abbrev pub lists : Outbox → List (List Notice)
-lists outbox = map deque_items outbox.lanes.items
-
--- the notices that wait for lane l
-abbrev pub waiting_at : Outbox → ℕ → List Notice
-waiting_at outbox l = slice_index_or (lists outbox) l []
+use Rattle.decider.specs.claims.Outbox.{lists}
 
 -- how many more notices each lane has room for
 abbrev pub spares : Outbox → List ℕ

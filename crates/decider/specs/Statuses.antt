@@ -1,24 +1,14 @@
 -- What is kept of the status of each object.
-use Rattle.std.specs.Prelude.{◌≡◌, ℕ, Bool, false, List, length, replicate, slice_index_or, slice_set, Option, Some, None}
+use Rattle.std.specs.Prelude.{ℕ, Bool, false, replicate, slice_set, Option, Some, None}
 use Rattle.due_model.specs.declared.config.ObjectId.{ObjectId}
-use Rattle.due_model.specs.declared.event.Event.{Event}
 use Rattle.due_model.specs.declared.event.EventKind.{EventKind}
 use Rattle.due_model.specs.declared.event.EventKind.TheVariants.{Clock, Program, Hard, Downtime, Flapping, Ack, AckRemoved, OwnSwitch}
 use Rattle.due_model.specs.declared.rules.ObjectStatus.{ObjectStatus}
 use Rattle.due_model.specs.declared.state.State.{State}
 use Rattle.due_model.specs.declared.state.State.TheVariants.{Pending}
 use Rattle.due_model.specs.Acknowledgements.{ack_after}
-use Rattle.due_model.specs.Histories.{status_after}
-use Rattle.due_model.specs.Readings.{depth_after, flapping_after, hard_after, switched_after}
-
--- each object's last hard state, how many of its downtimes run, whether it is flapping, how its problem is acknowledged,
--- and its own switch
-pub record StatusLists : Type 0 where
-  pub states : List State
-  pub depths : List ℕ
-  pub flaps : List Bool
-  pub acks : List (Option Bool)
-  pub switches : List (Option Bool)
+use Rattle.due_model.specs.claims.Readings.{depth_after, flapping_after, hard_after, switched_after}
+use Rattle.decider.specs.claims.Statuses.{StatusLists, status_at}
 
 -- of so many objects of which nothing is known yet
 abbrev pub no_statuses : (objects : ℕ) → StatusLists
@@ -28,16 +18,6 @@ no_statuses objects = record {
   flaps = replicate objects false;
   acks = replicate objects None;
   switches = replicate objects None;
-}
-
--- the status of object o
-abbrev pub status_at : StatusLists → (o : ℕ) → ObjectStatus
-status_at s o = record {
-  state = slice_index_or s.states o Pending;
-  depth = slice_index_or s.depths o 0;
-  flapping = slice_index_or s.flaps o false;
-  acknowledged = slice_index_or s.acks o None;
-  switched = slice_index_or s.switches o None;
 }
 
 -- with this status of object o
@@ -108,12 +88,3 @@ statuses_after k s = elim (named_by k) as (λ _. StatusLists) [
   | None ↦ s
   | Some o ↦ with_status s o.0 (status_by o.0 k (status_at s o.0))
 ]
-
--- Each status is the definitions' after this past, of so many objects.
-pub record StatusesFit (objects : ℕ) (past : List Event) (s : StatusLists) : Type 0 where
-  pub states : length s.states ≡ objects
-  pub depths : length s.depths ≡ objects
-  pub flaps : length s.flaps ≡ objects
-  pub acks : length s.acks ≡ objects
-  pub switches : length s.switches ≡ objects
-  pub each : (o : ℕ) → status_at s o ≡ status_after o past

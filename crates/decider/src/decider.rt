@@ -4,10 +4,10 @@ ghost use Rattle.std.specs.Prelude.{◌≡◌, ◌↔◌, ℕ, ◌+◌, ◌^◌,
 ghost use Rattle.std.specs.Prelude.{◌++◌};
 ghost use Rattle.std.specs.Prelude.{List, length, OnOk, OnErr, IfOk, IsErrOf};
 ghost use Rattle.due_model.specs.declared.event.Event.{Event};
-ghost use Rattle.due_model.specs.Accepted.{IsAccepted};
-ghost use Rattle.due_model.specs.Limits.{max_events};
-ghost use Rattle.due_model.specs.Proper.{IsProper};
-ghost use Rattle.decider.specs.Outbox.{lists, waiting_at};
+ghost use Rattle.due_model.specs.claims.Accepted.{IsAccepted};
+ghost use Rattle.due_model.specs.claims.Limits.{max_events};
+ghost use Rattle.due_model.specs.claims.Proper.{IsProper};
+ghost use Rattle.decider.specs.claims.Outbox.{lists, waiting_at};
 
 use crate::event_decider::{DecideFault, EventDecider};
 use crate::log::note;
@@ -32,10 +32,11 @@ pub struct Decider<'a> {
 }
 
 impl<'a> Decider<'a> {
-    ghost use Rattle.decider.specs.Decider.{gained, suppressed_gained};
-    ghost use Rattle.decider.specs.Fits.{kept, Fits, HasDecidedNothing, settings};
-    ghost use Rattle.decider.specs.Ready.{judged};
-    ghost use Rattle.decider.specs.Share.{IsShare};
+    ghost use Rattle.decider.specs.claims.Decider.{gained, suppressed_gained};
+    ghost use Rattle.decider.specs.claims.Fits.{kept, Fits, settings};
+    ghost use Rattle.decider.specs.Fits.{HasDecidedNothing};
+    ghost use Rattle.decider.specs.claims.Ready.{judged};
+    ghost use Rattle.decider.specs.claims.Share.{IsShare};
 
     /// A decider of the objects of this share, which has decided no event. A refused growth is the only
     /// error.

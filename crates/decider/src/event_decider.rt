@@ -3,10 +3,10 @@
 ghost use Rattle.std.specs.Prelude.{◌≡◌, ◌↔◌, ◌+◌, ◌<◌, ◌≤◌, []};
 ghost use Rattle.std.specs.Prelude.{◌∷◌, List, length, replicate, OnOk, OnErr, IfOk, IsErrOf};
 ghost use Rattle.due_model.specs.declared.event.Event.{Event};
-ghost use Rattle.due_model.specs.Accepted.{IsAccepted};
-ghost use Rattle.due_model.specs.Limits.{max_events};
-ghost use Rattle.due_model.specs.Proper.{IsProper};
-ghost use Rattle.problem_count.specs.Book.{new_book};
+ghost use Rattle.due_model.specs.claims.Accepted.{IsAccepted};
+ghost use Rattle.due_model.specs.claims.Limits.{max_events};
+ghost use Rattle.due_model.specs.claims.Proper.{IsProper};
+ghost use Rattle.problem_count.specs.claims.Book.{new_book};
 ghost use Rattle.problem_count.specs.Fits.{FitsNothing};
 
 use crate::reading::{EventContext, Reading};
@@ -74,14 +74,17 @@ pub struct EventDecider<'a> {
 }
 
 impl<'a> EventDecider<'a> {
-    ghost use Rattle.messages.specs.Entries.{event_entries};
+    ghost use Rattle.messages.specs.claims.Entries.{event_entries};
     ghost use Rattle.decider.specs.Books.{share_books};
     ghost use Rattle.decider.specs.Entries.{share_entries};
-    ghost use Rattle.decider.specs.Fits.{Fits, HasDecidedNothing, context_of, core_kept};
+    ghost use Rattle.decider.specs.claims.Fits.{Fits, core_kept};
+    ghost use Rattle.decider.specs.Fits.{HasDecidedNothing, context_of};
     ghost use Rattle.decider.specs.Fits.{last_entries};
-    ghost use Rattle.decider.specs.Fits.{kept_after, settings};
-    ghost use Rattle.decider.specs.Ready.{HasRoom, IsIndexAfter, judged};
-    ghost use Rattle.decider.specs.Share.{IsShare};
+    ghost use Rattle.decider.specs.claims.Fits.{settings};
+    ghost use Rattle.decider.specs.Fits.{kept_after};
+    ghost use Rattle.decider.specs.claims.Ready.{judged};
+    ghost use Rattle.decider.specs.Ready.{HasRoom, IsIndexAfter};
+    ghost use Rattle.decider.specs.claims.Share.{IsShare};
 
     /// A decider of the objects of this share, which has decided no event. It works out the periods of the
     /// configuration. A refused growth is the only error.

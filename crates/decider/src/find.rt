@@ -4,18 +4,18 @@ ghost use Rattle.std.specs.Prelude.{◌≡◌, ◌∷◌, ◌<◌, ◌≤◌, �
 ghost use Rattle.due_model.specs.declared.config.Config.{Config};
 ghost use Rattle.due_model.specs.declared.config.Object.{Object};
 ghost use Rattle.due_model.specs.declared.event.Event.{Event};
-ghost use Rattle.due_model.specs.Accepted.{IsAccepted};
-ghost use Rattle.due_model.specs.Dependencies.{dependency_fails};
-ghost use Rattle.due_model.specs.Histories.{depends_at, host_holds, repeats};
-ghost use Rattle.due_model.specs.Limits.{last_moment, max_events};
-ghost use Rattle.due_model.specs.Readings.{is_problem_state};
-ghost use Rattle.due_model.specs.Rules.{same_state};
+ghost use Rattle.due_model.specs.claims.Accepted.{IsAccepted};
+ghost use Rattle.due_model.specs.claims.Dependencies.{dependency_fails};
+ghost use Rattle.due_model.specs.claims.Histories.{depends_at, host_holds, repeats};
+ghost use Rattle.due_model.specs.claims.Limits.{last_moment, max_events};
+ghost use Rattle.due_model.specs.claims.Readings.{is_problem_state};
+ghost use Rattle.due_model.specs.claims.Rules.{same_state};
 ghost use Rattle.dependency.specs.Entry.{state_of};
 ghost use Rattle.outcomes.specs.Found.{IsFound, is_host_down};
-ghost use Rattle.time_period.specs.Days.{AreCompiled};
+ghost use Rattle.time_period.specs.claims.Days.{AreCompiled};
 ghost use Rattle.decider.specs.Events.{IsAt, values};
 ghost use Rattle.decider.specs.Found.{depends_by, host_depends, is_host_problem, names};
-ghost use Rattle.decider.specs.Statuses.{StatusesFit, status_at};
+ghost use Rattle.decider.specs.claims.Statuses.{StatusesFit, status_at};
 
 use crate::reading::Reading;
 use crate::statuses::{Statuses, hard_by, status_by};

@@ -19,7 +19,8 @@ impl Outbox {
     ghost use Rattle.std.specs.Prelude.{IfOk};
     ghost use Rattle.std.specs.Prelude.{OnOk};
     ghost use Rattle.messages.specs.Entries.{notices_on};
-    ghost use Rattle.decider.specs.Outbox.{lists, spare_at, waiting_at, count_for, HasRoomFor};
+    ghost use Rattle.decider.specs.claims.Outbox.{lists, waiting_at};
+    ghost use Rattle.decider.specs.Outbox.{spare_at, count_for, HasRoomFor};
 
     /// An outbox for so many lanes, in which nothing waits.
     pub fn new(alloc: Global, lanes: usize) -> Result<Outbox, AllocError>

@@ -2,8 +2,9 @@
 //! entries.
 
 ghost use Rattle.std.specs.Prelude.{◌≡◌, ℕ, ◌≤◌, ◌<◌, length, IfOk};
-ghost use Rattle.due_model.specs.Limits.{max_objects};
-ghost use Rattle.due_times.specs.Index.{Sets, at};
+ghost use Rattle.due_model.specs.claims.Limits.{max_objects};
+ghost use Rattle.due_times.specs.claims.Index.{at};
+ghost use Rattle.due_times.specs.Index.{Sets};
 ghost use Rattle.decider.specs.Ready.{HasRoom, entry_decided, handed_after, left_after};
 
 use crate::staging::NewBook;

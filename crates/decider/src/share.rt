@@ -1,7 +1,7 @@
 //! The share of a decider: which objects it decides.
 
 ghost use Rattle.std.specs.Prelude.{◌≡◌, ◌<◌, ◌≤◌};
-ghost use Rattle.decider.specs.Share.{is_owned};
+ghost use Rattle.decider.specs.claims.Share.{is_owned};
 
 use due_model::config::ObjectId;
 

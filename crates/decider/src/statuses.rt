@@ -4,9 +4,10 @@ ghost use Rattle.std.specs.Prelude.{◌≡◌, ◌+◌, ◌^◌, ◌<◌};
 ghost use Rattle.std.specs.Prelude.{length, IfOk, IfSome, slice_index_or, None};
 ghost use Rattle.due_model.specs.declared.state.State.TheVariants.{Pending};
 ghost use Rattle.due_model.specs.Acknowledgements.{ack_after};
-ghost use Rattle.due_model.specs.Readings.{depth_after, depth_changed, flapping_after};
-ghost use Rattle.due_model.specs.Readings.{switched_after};
-ghost use Rattle.decider.specs.Statuses.{hard_by, named_by, no_statuses, status_at, status_by};
+ghost use Rattle.due_model.specs.claims.Readings.{depth_after, depth_changed, flapping_after};
+ghost use Rattle.due_model.specs.claims.Readings.{switched_after};
+ghost use Rattle.decider.specs.claims.Statuses.{status_at};
+ghost use Rattle.decider.specs.Statuses.{hard_by, named_by, no_statuses, status_by};
 ghost use Rattle.decider.specs.Statuses.{statuses_after, with_ack, with_depth, with_flapping};
 ghost use Rattle.decider.specs.Statuses.{with_state, with_switch};
 
@@ -34,7 +35,7 @@ pub(crate) struct Statuses {
 
 impl Model for Statuses {
     ghost use Rattle.std.specs.Prelude.{◌≡◌, length};
-    ghost use Rattle.decider.specs.Statuses.{StatusLists};
+    ghost use Rattle.decider.specs.claims.Statuses.{StatusLists};
 
     ghost Value = { StatusLists };
 

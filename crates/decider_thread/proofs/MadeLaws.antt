@@ -17,19 +17,20 @@ use Rattle.due_model.specs.declared.notice.Suppression.{Suppression}
 use Rattle.due_model.specs.declared.options.OptionLetters.{OptionLetters}
 use Rattle.due_model.specs.declared.rules.Attempt.{Attempt}
 use Rattle.due_model.specs.declared.zone.Zone.{Zone}
-use Rattle.due_model.specs.Due.{due, due_at, due_for, notices, refusal_of, sup, suppressed_at, suppressed_for, suppressions}
-use Rattle.due_model.specs.Receivers.{receivers, rights_for}
-use Rattle.due_model.specs.Histories.{hist, outcome}
-use Rattle.due_model.specs.Rules.{contact_failing}
+use Rattle.due_model.specs.claims.Due.{due, due_at, due_for, notices, refusal_of, sup, suppressed_at, suppressed_for, suppressions}
+use Rattle.due_model.specs.claims.Receivers.{receivers, rights_for}
+use Rattle.due_model.specs.claims.Histories.{hist, outcome}
+use Rattle.due_model.specs.claims.Rules.{contact_failing}
 use Rattle.decider.specs.declared.share.Share.{Share}
-use Rattle.decider.specs.Decider.{gain, gained, suppressed_gain, suppressed_gained}
-use Rattle.decider.specs.Share.{is_owned, owned_numbers}
+use Rattle.decider.specs.claims.Decider.{gain, gained, suppressed_gain, suppressed_gained}
+use Rattle.decider.specs.claims.Share.{is_owned, owned_numbers}
 use Rattle.decider.specs.DeciderLaws.{due_more}
 use Rattle.lemmas.proofs.Lists.{AllPairs-append, AllPairs-nil, All-flat_map, range_below, range_increases}
 use Rattle.lemmas.proofs.Notices.{notices_to_each}
-use Rattle.decider_thread.specs.Order.{IsInOrder, place}
-use Rattle.steps.specs.Lanes.{about}
-use Rattle.decider_thread.specs.Laws.{IsMade, of_object}
+use Rattle.decider_thread.specs.claims.Order.{IsInOrder, place}
+use Rattle.steps.specs.claims.Lanes.{about}
+use Rattle.decider_thread.specs.claims.Laws.{of_object}
+use Rattle.decider_thread.specs.Laws.{IsMade}
 use Rattle.decider_thread.specs.Made.{made_due, suppressed}
 use Rattle.decider_thread.proofs.ShareLaws.{in_order, none_owned, one_owned}
 

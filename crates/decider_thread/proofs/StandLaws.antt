@@ -6,8 +6,9 @@ use Rattle.due_model.specs.declared.notice.Notice.{Notice}
 use Rattle.due_model.specs.declared.notice.Suppression.{Suppression}
 use Rattle.due_model.specs.declared.zone.Zone.{Zone}
 use Rattle.decider.specs.declared.share.Share.{Share}
-use Rattle.decider.specs.Decider.{gained, suppressed_gained}
-use Rattle.decider.specs.Fits.{Fits, HasDecidedNothing, Kept, settings}
+use Rattle.decider.specs.claims.Decider.{gained, suppressed_gained}
+use Rattle.decider.specs.claims.Fits.{Fits, Kept, settings}
+use Rattle.decider.specs.Fits.{HasDecidedNothing}
 use Rattle.channel_queue.specs.declared.LaneQueue.{LaneQueue}
 use Rattle.decider_thread.specs.declared.Signal.{Signal}
 use Rattle.decider_thread.specs.declared.Signal.TheVariants.{Decides, Over}

@@ -10,7 +10,7 @@ use Rattle.due_model.specs.declared.notice.Notice.{Notice}
 use Rattle.due_model.specs.declared.notice.Suppression.{Suppression}
 use Rattle.due_model.specs.declared.zone.Zone.{Zone}
 use Rattle.decider.specs.declared.share.Share.{Share}
-use Rattle.decider.specs.Fits.{Fits, Kept, settings}
+use Rattle.decider.specs.claims.Fits.{Fits, Kept, settings}
 use Rattle.channel_queue.specs.declared.LaneQueue.{LaneQueue}
 use Rattle.decider_thread.specs.declared.Signal.{Signal}
 use Rattle.decider_thread.specs.declared.Signal.TheVariants.{Decides, Over}
@@ -19,15 +19,12 @@ use Rattle.decider_thread.specs.declared.ring.DeciderEnd.{DeciderEnd}
 use Rattle.decider_thread.specs.Made.{made_due, suppressed}
 use Rattle.decider_thread.specs.Puts.{ArePut, HaveEnded}
 use Rattle.decider_thread.specs.Told.{IsNoted}
+use Rattle.decider_thread.specs.claims.Decided.{IsOlder}
 
 -- the signals of these events, of which the newest is the first
 abbrev pub heard : List Event → List Signal
 heard [] = []
 heard (e ∷ past) = heard past ++ Decides e ∷ []
-
--- these events begin with those, newest first, that came after the others
-abbrev pub IsOlder : (past all : List Event) → Type 0
-IsOlder past all = (newer : List Event) × (newer ++ past ≡ all)
 
 -- A decider has decided this past: what it keeps fits it, of all that this made due it has put a first part of each lane, and the
 -- rest waits; and all that this suppressed it has told or keeps.

@@ -1,21 +1,17 @@
 -- The laws of what a decider's events make of the objects of its share.
-use Rattle.std.specs.Prelude.{◌≡◌, ℕ, ◌%◌, ◌<◌, ◌==◌, true, false, List, [], All, filter, length}
+use Rattle.std.specs.Prelude.{◌≡◌, ℕ, ◌%◌, ◌<◌, true, false, List, [], All, length}
 use Rattle.due_model.specs.declared.config.Config.{Config}
 use Rattle.due_model.specs.declared.event.Event.{Event}
 use Rattle.due_model.specs.declared.notice.Notice.{Notice}
-use Rattle.due_model.specs.declared.notice.Suppression.{Suppression}
 use Rattle.due_model.specs.declared.zone.Zone.{Zone}
-use Rattle.due_model.specs.Accepted.{IsAccepted}
-use Rattle.due_model.specs.Due.{due, sup}
+use Rattle.due_model.specs.claims.Accepted.{IsAccepted}
+use Rattle.due_model.specs.claims.Due.{due, sup}
 use Rattle.decider.specs.declared.share.Share.{Share}
-use Rattle.decider.specs.Share.{is_owned}
-use Rattle.decider_thread.specs.Order.{IsInOrder}
-use Rattle.steps.specs.Lanes.{about}
+use Rattle.decider.specs.claims.Share.{is_owned}
+use Rattle.decider_thread.specs.claims.Order.{IsInOrder}
+use Rattle.steps.specs.claims.Lanes.{about}
 use Rattle.decider_thread.specs.Made.{made_due, suppressed}
-
--- the suppressions of object o
-abbrev pub of_object : (o : ℕ) → List Suppression → List Suppression
-of_object o log = filter (λ s. s.object.0 == o) log
+use Rattle.decider_thread.specs.claims.Laws.{of_object}
 
 -- Of an object of the share, what is made due on a lane is what is due of it there.
 abbrev pub MadeIsDue : Type 0

@@ -1,3 +1,4 @@
+pub mod claims
 pub mod Order
 pub mod Made
 pub mod Told

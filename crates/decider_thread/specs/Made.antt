@@ -6,7 +6,7 @@ use Rattle.due_model.specs.declared.notice.Notice.{Notice}
 use Rattle.due_model.specs.declared.notice.Suppression.{Suppression}
 use Rattle.due_model.specs.declared.zone.Zone.{Zone}
 use Rattle.decider.specs.declared.share.Share.{Share}
-use Rattle.decider.specs.Decider.{gained, suppressed_gained}
+use Rattle.decider.specs.claims.Decider.{gained, suppressed_gained}
 
 -- what these events, of which the newest is the first, have made due on lane l: by event, then object, then contact
 abbrev pub made_due : Config → Zone → Share → (l : ℕ) → List Event → List Notice

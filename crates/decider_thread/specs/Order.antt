@@ -1,15 +1,7 @@
 -- The order of a log: by event, then object.
-use Rattle.std.specs.Prelude.{ℕ, ◌+◌, ◌*◌, ◌≤◌, Bool, List, nat_lt}
-use Rattle.std.specs.List.{AllPairs}
+use Rattle.std.specs.Prelude.{Bool, nat_lt}
 use Rattle.due_model.specs.declared.notice.Suppression.{Suppression}
-
--- where a suppression stands: by event, then object, whose number is below 65,536
-abbrev pub place : Suppression → ℕ
-place s = s.event * 65_536 + s.object.0
+use Rattle.decider_thread.specs.claims.Order.{place}
 
 abbrev pub stands_before : Suppression → Suppression → Bool
 stands_before a b = nat_lt (place a) (place b)
-
--- no suppression stands before an earlier one of the list
-abbrev pub IsInOrder : List Suppression → Type 0
-IsInOrder log = AllPairs (λ a b. place a ≤ place b) log

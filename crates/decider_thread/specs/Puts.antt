@@ -5,7 +5,7 @@ use Rattle.due_model.specs.declared.item.Item.{Item}
 use Rattle.due_model.specs.declared.item.Item.TheVariants as item
 use Rattle.due_model.specs.declared.notice.Notice.{Notice}
 use Rattle.decider.specs.declared.outbox.Outbox.{Outbox}
-use Rattle.decider.specs.Outbox.{lists}
+use Rattle.decider.specs.claims.Outbox.{lists}
 use Rattle.channel_queue.specs.declared.LaneQueue.{LaneQueue}
 use Rattle.channel_queue.specs.declared.Seen.{Seen}
 use Rattle.channel_queue.specs.Passes.{IsDecider}

@@ -4,9 +4,9 @@ ghost use Rattle.std.specs.Prelude.{◌≡◌, ◌<◌, ◌++◌, ◌∷◌, Lis
 ghost use Rattle.due_model.specs.declared.event.Event.{Event};
 ghost use Rattle.due_model.specs.declared.notice.Suppression.{Suppression};
 ghost use Rattle.due_model.specs.declared.zone.Zone.{Zone};
-ghost use Rattle.decider.specs.Fits.{Fits, kept, settings};
+ghost use Rattle.decider.specs.claims.Fits.{Fits, kept, settings};
 ghost use Rattle.decider.specs.declared.share.Share.{Share};
-ghost use Rattle.decider.specs.Outbox.{lists, waiting_at};
+ghost use Rattle.decider.specs.claims.Outbox.{lists, waiting_at};
 ghost use Rattle.rtrb.specs.Ring.{SameConsumer, received};
 ghost use Rattle.channel_queue.specs.declared.LaneQueue.{LaneQueue};
 ghost use Rattle.decider_thread.specs.declared.seats.Seat.{Seat};

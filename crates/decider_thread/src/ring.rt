@@ -1,8 +1,8 @@
 //! The work of a decider's thread.
 
 ghost use Rattle.std.specs.Prelude.{◌≡◌, [], false, length};
-ghost use Rattle.due_model.specs.Accepted.{IsAccepted};
-ghost use Rattle.decider.specs.Share.{IsShare};
+ghost use Rattle.due_model.specs.claims.Accepted.{IsAccepted};
+ghost use Rattle.decider.specs.claims.Share.{IsShare};
 ghost use Rattle.rtrb.specs.Ring.{SameConsumer, received};
 ghost use Rattle.decider_thread.specs.Decided.{HasHeard, HasToldAndDecided};
 ghost use Rattle.decider_thread.specs.Puts.{ArePut};

@@ -2,7 +2,7 @@
 
 ghost use Rattle.std.specs.Prelude.{◌≡◌, ◌≢◌, ◌↔◌, ◌<◌, ◌≤◌, ◌++◌, ◌∷◌, ℕ, List, [], true, length};
 ghost use Rattle.due_model.specs.declared.notice.Notice.{Notice};
-ghost use Rattle.decider.specs.Outbox.{lists, waiting_at};
+ghost use Rattle.decider.specs.claims.Outbox.{lists, waiting_at};
 ghost use Rattle.decider_thread.specs.Puts.{ArePut, HaveEnded, Puts, as_items, waiting_count};
 ghost use Rattle.channel_queue.specs.Passes.{IsDecider};
 ghost use Rattle.due_model.specs.declared.item.Item.TheVariants.{End};

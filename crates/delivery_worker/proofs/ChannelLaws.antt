@@ -5,17 +5,19 @@ use Rattle.std.proofs.lemmas.List.{get_or-set_same, length-set, take-append-le}
 use Rattle.std.proofs.lemmas.Option.{none-some, same_Some, slice_get-get_or}
 use Rattle.std.specs.Option.{option_to_list}
 use mathlib.Core.List.{IsPrefix}
-use Rattle.channel.specs.Channels.{Account, Offer, receipt_of}
+use Rattle.channel.specs.claims.Channels.{Account, Offer, receipt_of}
 use Rattle.due_model.specs.declared.config.Config.{Config}
 use Rattle.due_model.specs.declared.notice.Notice.{Notice}
 use Rattle.undelivered.specs.Record.{Record}
 use Rattle.undelivered.specs.declared.Why.{Why}
 use Rattle.undelivered.specs.declared.Why.TheVariants as why
-use Rattle.delivery_worker.specs.Attempts.{HasFailed}
-use Rattle.delivery_worker.specs.Channels.{HasBeenLeft, HasServed, HaveServed, next_after, record_at, records_in}
-use Rattle.delivery_worker.specs.Offers.{AreInVain, AreOffers, AreSettling, in_vain}
+use Rattle.delivery_worker.specs.claims.Attempts.{HasFailed}
+use Rattle.delivery_worker.specs.claims.Channels.{HasBeenLeft, HasServed, HaveServed, next_after, record_at}
+use Rattle.delivery_worker.specs.Channels.{records_in}
+use Rattle.delivery_worker.specs.claims.Offers.{AreInVain, AreOffers, AreSettling, in_vain}
 use Rattle.delivery_worker.proofs.OfferLaws.{no_tries}
-use Rattle.delivery_worker.specs.Picked.{HasOwnRecord, IsServing, all_taken, held, join_lists, joined}
+use Rattle.delivery_worker.specs.claims.Picked.{join_lists}
+use Rattle.delivery_worker.specs.Picked.{HasOwnRecord, IsServing, all_taken, held, joined}
 use Rattle.delivery_worker.proofs.TendLaws.{join_lists-more}
 
 -- ---- lists

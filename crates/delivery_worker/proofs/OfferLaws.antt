@@ -1,8 +1,8 @@
 -- What channels are offered, as one letter follows another.
 use Rattle.std.proofs.Common.{◌≡◌, ℕ, ◌+◌, Bool, true, false, List, [], ◌∷◌, ◌++◌, Option, Some, None, Result, Ok, Err, OnOk, OnErr, IfErr, replicate, refl, sym, ap, ◌∙◌, subst, ⊎_elim, append-nil, append_assoc, true≢false, arith}
 use Rattle.std.proofs.lemmas.List.{replicate_more}
-use Rattle.channel.specs.Channels.{Offer}
-use Rattle.channel.specs.Letter.{letter_of}
+use Rattle.channel.specs.claims.Channels.{Offer}
+use Rattle.channel.specs.claims.Letter.{letter_of}
 use Rattle.due_model.specs.declared.config.Config.{Config}
 use Rattle.due_model.specs.declared.notice.Notice.{Notice}
 use Rattle.undelivered.specs.Record.{Record}
@@ -10,7 +10,8 @@ use Rattle.undelivered.specs.declared.Why.{Why}
 use Rattle.undelivered.specs.declared.Why.TheVariants as why
 use Rattle.delivery_worker.specs.Attempts.{KeepsInHand, with_hand}
 use Rattle.delivery_worker.specs.declared.Attempted.TheVariants.{Settled, Asked, Failed}
-use Rattle.delivery_worker.specs.Offers.{AreInVain, AreOffers, AreSettling, GainsByOffers, IsTried, Settles, TakesOffers, TriesInVain, in_vain, offers_for}
+use Rattle.delivery_worker.specs.claims.Offers.{AreInVain, AreOffers, AreSettling, in_vain, offers_for}
+use Rattle.delivery_worker.specs.Offers.{GainsByOffers, IsTried, Settles, TakesOffers, TriesInVain}
 
 -- that of a channel's offers one list follows another
 abbrev pub Follows : {C : Type 0} → (offered : C → List Offer → C → Type 0) → Type 0

@@ -1,25 +1,15 @@
 -- What tries that failed leave, and how a lane's record stands after a notice was handed to its channel.
-use Rattle.std.specs.Prelude.{◌≡◌, ◌↔◌, ℕ, ◌+◌, ◌-◌, ◌^◌, ◌<◌, ◌≤◌, ◌⊎◌, [], ◌∷◌, ◌++◌}
-use Rattle.std.specs.Prelude.{Option, Some, length}
+use Rattle.std.specs.Prelude.{◌≡◌, ◌↔◌, ℕ, ◌+◌, ◌-◌, ◌<◌, ◌≤◌, ◌⊎◌, [], ◌∷◌, ◌++◌}
+use Rattle.std.specs.Prelude.{Some, length}
 use Rattle.due_model.specs.declared.config.Config.{Config}
 use Rattle.due_model.specs.declared.notice.Notice.{Notice}
-use Rattle.channel.specs.Letter.{letter_of}
+use Rattle.channel.specs.claims.Letter.{letter_of}
 use Rattle.undelivered.specs.Record.{Record}
 use Rattle.undelivered.specs.declared.Why.{Why}
 use Rattle.undelivered.specs.declared.Why.TheVariants.{NoMemory}
 use Rattle.delivery_worker.specs.declared.Attempted.{Attempted}
 use Rattle.delivery_worker.specs.declared.Attempted.TheVariants.{Settled, Asked, Failed}
-
--- a count rose by so many, or by fewer and stands at the greatest that a u64 holds
-abbrev pub RisesBy : (more old new : ℕ) → Type 0
-RisesBy more old new =
-    (new ≡ old + more) ⊎ ((2 ^ 64 - 1 ≤ new) × (old ≤ new) × (new ≤ old + more))
-
--- So many tries failed of a letter of this size: each at the device, which counted it, or none of them, since the letter is
--- longer than the channel's limit.
-abbrev pub TriesFailed : (tries limit size old new : ℕ) → Type 0
-TriesFailed tries limit size old new =
-    ((size ≤ limit) × RisesBy tries old new) ⊎ ((limit < size) × (new ≡ old))
+use Rattle.delivery_worker.specs.claims.Attempts.{RisesBy, TriesFailed}
 
 -- The bell said that the lane is to close where that is the answer, once, and else it didn't.
 abbrev pub HasRung : (asked : Type 0) → (old new : ℕ) → Type 0
@@ -63,10 +53,3 @@ with_hand n lane = record lane { hand = Some n }
 abbrev pub KeepsInHand : Why → Notice → (old new : Record) → Type 0
 KeepsInHand why n old new =
     (new ≡ with_hand n old) ⊎ ((new ≡ old) × (why ≡ NoMemory))
-
--- The notice in hand failed: the count of failures stood no lower than `old` when its letter was first tried, and from there on
--- so many tries of it failed.
-abbrev pub HasFailed : (tries : ℕ) → Config → (limit old new : ℕ) → (hand : Option Notice) → Type 0
-HasFailed tries c limit old new hand =
-    (n : Notice) × (first : ℕ) × (hand ≡ Some n) × (old ≤ first)
-    × TriesFailed tries limit (length (letter_of c n)) first new

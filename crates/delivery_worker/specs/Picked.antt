@@ -3,12 +3,13 @@ use Rattle.std.specs.Prelude.{◌≡◌, ℕ, ◌<◌, ◌⊎◌, Bool, true, fa
 use Rattle.std.specs.Option.{option_to_list}
 use Rattle.due_model.specs.declared.item.Item.{Item}
 use Rattle.due_model.specs.declared.notice.Notice.{Notice}
-use Rattle.channel.specs.Channels.{receipt_of}
+use Rattle.channel.specs.claims.Channels.{receipt_of}
 use Rattle.channel.specs.declared.Receipt.{Receipt}
 use Rattle.channel_queue.specs.Rule.{ended}
 use Rattle.undelivered.specs.Record.{Record}
 use Rattle.undelivered.specs.declared.Why.{Why}
 use Rattle.undelivered.specs.declared.Why.TheVariants.{NoMemory}
+use Rattle.delivery_worker.specs.claims.Picked.{join_lists}
 
 -- entry d says whether the end of decider d was picked
 abbrev pub AreEnds : (picked : List Item) → (ends : List Bool) → Type 0
@@ -17,11 +18,6 @@ AreEnds picked ends = (d : ℕ) → d < 8 → slice_index_or ends d false ≡ en
 -- the end of each decider was picked
 abbrev pub AllEnded : (deciders : ℕ) → (picked : List Item) → Type 0
 AllEnded deciders picked = (d : ℕ) → d < deciders → ended d picked ≡ true
-
--- several lists as one
-abbrev pub join_lists : List (List Notice) → List Notice
-join_lists [] = []
-join_lists (ns ∷ rest) = ns ++ join_lists rest
 
 -- what all its channels have taken
 abbrev pub all_taken : Record → List Notice

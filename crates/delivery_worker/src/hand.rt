@@ -3,10 +3,12 @@
 ghost use Rattle.std.specs.Prelude.{◌≡◌, ◌↔◌, ◌+◌, ◌<◌, ◌≤◌, [], ◌∷◌, ◌++◌, length, map};
 ghost use Rattle.std.specs.Prelude.{Some, None, IfErr, IsErrOf, OnErr, OnOk, false, true};
 ghost use Rattle.std.specs.Option.{option_to_list};
-ghost use Rattle.channel.specs.Channels.{receipt_of};
-ghost use Rattle.channel.specs.Letter.{letter_of};
-ghost use Rattle.delivery_worker.specs.Attempts.{HasFailed, HasRung, HasTriedLetter, KeepsInHand};
-ghost use Rattle.delivery_worker.specs.Attempts.{TriesFailed, with_taken};
+ghost use Rattle.channel.specs.claims.Channels.{receipt_of};
+ghost use Rattle.channel.specs.claims.Letter.{letter_of};
+ghost use Rattle.delivery_worker.specs.claims.Attempts.{HasFailed};
+ghost use Rattle.delivery_worker.specs.Attempts.{HasRung, HasTriedLetter, KeepsInHand};
+ghost use Rattle.delivery_worker.specs.claims.Attempts.{TriesFailed};
+ghost use Rattle.delivery_worker.specs.Attempts.{with_taken};
 ghost use Rattle.delivery_worker.specs.Offers.{Settles, TriesInVain};
 
 use crate::laws::attempt;

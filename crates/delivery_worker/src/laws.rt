@@ -3,11 +3,12 @@
 ghost use Rattle.std.specs.Prelude.{◌≡◌, ◌≢◌, ◌↔◌, ◌+◌, ◌<◌, ◌≤◌, []};
 ghost use Rattle.std.specs.Prelude.{◌∷◌, ◌++◌, length, map, List, None};
 ghost use mathlib.Core.List.{IsPrefix};
-ghost use Rattle.channel.specs.Channels.{receipt_of};
+ghost use Rattle.channel.specs.claims.Channels.{receipt_of};
 ghost use Rattle.channel.specs.declared.Receipt.{Receipt};
 ghost use Rattle.channel_queue.specs.Passes.{IsWorker};
 ghost use Rattle.channel_queue.specs.Rule.{joined_of, picked_of};
-ghost use Rattle.delivery_worker.specs.Attempts.{HasFailed, HasTriedAndAsked, TriesFailed};
+ghost use Rattle.delivery_worker.specs.claims.Attempts.{HasFailed, TriesFailed};
+ghost use Rattle.delivery_worker.specs.Attempts.{HasTriedAndAsked};
 ghost use Rattle.delivery_worker.specs.Offers.{GainsByOffers, IsTried};
 ghost use Rattle.delivery_worker.specs.Picked.{AllEnded, AreEnds, IsServing, held};
 ghost use Rattle.due_model.specs.Items.{notices};

@@ -15,10 +15,10 @@ use Rattle.due_model.specs.declared.config.Config.{Config}
 use Rattle.due_model.specs.declared.config.Dependency.{Dependency}
 use Rattle.due_model.specs.declared.state.State.{State}
 use Rattle.due_model.specs.declared.zone.Zone.{Zone}
-use Rattle.due_model.specs.Accepted.{DependencyFits, IsAccepted}
+use Rattle.due_model.specs.claims.Accepted.{DependencyFits, IsAccepted}
 use Rattle.due_model.specs.ByObject.{entries_of}
-use Rattle.due_model.specs.Dependencies.{dependency_fails, entry_fails, fails_at}
-use Rattle.due_model.specs.Periods.{in_period}
+use Rattle.due_model.specs.claims.Dependencies.{dependency_fails, entry_fails, fails_at}
+use Rattle.due_model.specs.claims.Periods.{in_period}
 use Rattle.lemmas.proofs.Dependencies.{fails_at_any_depth}
 use Rattle.dependency.specs.Entry.{fails_by, masters_of}
 use Rattle.dependency.specs.Search.{Fails, IsWalk}

@@ -5,8 +5,8 @@ use Rattle.due_model.specs.declared.config.Dependency.{Dependency}
 use Rattle.due_model.specs.declared.state.State.{State}
 use Rattle.due_model.specs.declared.state.State.TheVariants as state
 use Rattle.due_model.specs.declared.zone.Zone.{Zone}
-use Rattle.due_model.specs.Dependencies.{fails_at}
-use Rattle.due_model.specs.Periods.{in_period}
+use Rattle.due_model.specs.claims.Dependencies.{fails_at}
+use Rattle.due_model.specs.claims.Periods.{in_period}
 
 -- the state of each object, by its number
 abbrev pub state_of : List State → ℕ → State

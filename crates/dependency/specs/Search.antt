@@ -5,7 +5,7 @@ use Rattle.due_model.specs.declared.config.Config.{Config}
 use Rattle.due_model.specs.declared.state.State.{State}
 use Rattle.due_model.specs.declared.zone.Zone.{Zone}
 use Rattle.due_model.specs.ByObject.{entries_of}
-use Rattle.due_model.specs.Dependencies.{entry_fails}
+use Rattle.due_model.specs.claims.Dependencies.{entry_fails}
 use Rattle.dependency.specs.Entry.{fails_by, masters_of}
 
 -- a dependency of object o fails, along a chain of any length

@@ -3,12 +3,12 @@
 ghost use Rattle.std.specs.Prelude.{◌≡◌, ◌≤◌, ◌<◌, [], ◌∷◌, cond, false, length, IfOk};
 ghost use Rattle.std.specs.List.{list_any};
 ghost use Rattle.graph.specs.Reach.{Gains};
-ghost use Rattle.due_model.specs.Accepted.{IsAccepted};
+ghost use Rattle.due_model.specs.claims.Accepted.{IsAccepted};
 ghost use Rattle.due_model.specs.ByObject.{entries_of};
-ghost use Rattle.due_model.specs.Dependencies.{dependency_fails, fails_at};
-ghost use Rattle.due_model.specs.Limits.{last_moment};
+ghost use Rattle.due_model.specs.claims.Dependencies.{dependency_fails, fails_at};
+ghost use Rattle.due_model.specs.claims.Limits.{last_moment};
 ghost use Rattle.dependency.specs.Entry.{fails_by, masters_of, state_of};
-ghost use Rattle.time_period.specs.Days.{AreCompiled};
+ghost use Rattle.time_period.specs.claims.Days.{AreCompiled};
 
 use due_model::config::{Config, Dependency, ObjectId};
 use due_model::state::State;

@@ -9,10 +9,11 @@ use Rattle.due_model.specs.declared.notice.Notice.{Notice}
 use Rattle.due_model.specs.declared.zone.Zone.{Zone}
 use Rattle.event_feed.specs.declared.fault.FeedFault.{FeedFault}
 use Rattle.event_feed.specs.declared.fault.RefusedLine.{RefusedLine}
-use Rattle.event_feed.specs.Feed.{Answer, AreGivenBy, Feed, GivesEvent, GivesFault, answers_from, ends_feed, refusal}
+use Rattle.event_feed.specs.claims.Feed.{Answer, AreGivenBy, Feed, GivesEvent, GivesFault, ends_feed, refusal}
+use Rattle.event_feed.specs.Feed.{answers_from}
 use Rattle.event_feed.specs.FeedLaws.{Passed, earlier_more, event_answers, event_passes, fault_next, fault_passes, known_same, known_then, passed_more, then_by}
-use Rattle.text_lines.specs.Lines.{pieces}
-use Rattle.decider.specs.Fits.{Fits, Kept}
+use Rattle.text_lines.specs.claims.Lines.{pieces}
+use Rattle.decider.specs.claims.Fits.{Fits, Kept}
 use Rattle.messages.specs.declared.entries.Entry.{Entry}
 use Rattle.messages.specs.declared.entries.Entry.TheVariants.{Sent}
 use Rattle.messages.specs.Entries.{notice_in, notices_in}

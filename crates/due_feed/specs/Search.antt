@@ -1,15 +1,17 @@
 -- A search through a feed, from line to line.
 use Rattle.std.specs.Prelude.{◌≡◌, ℕ, ◌<◌, ◌≤◌, All, Bool, false, List, [], ◌∷◌, ◌++◌, length, None, Result, Ok, Err}
-use Rattle.decider.specs.Fits.{Fits, Kept}
+use Rattle.decider.specs.claims.Fits.{Fits, Kept}
 use Rattle.due_model.specs.declared.config.Config.{Config}
 use Rattle.due_model.specs.declared.config.Object.{Object}
 use Rattle.due_model.specs.declared.event.Event.{Event}
 use Rattle.due_model.specs.declared.notice.Notice.{Notice}
 use Rattle.due_model.specs.declared.zone.Zone.{Zone}
 use Rattle.event_feed.specs.declared.fault.FeedFault.{FeedFault}
-use Rattle.event_feed.specs.Feed.{Answer, AnswersNext, AreGivenBy, Feed, PassesLines, answers_from, ends_feed}
-use Rattle.messages.specs.Entries.{event_entries, notices_in}
-use Rattle.text_lines.specs.Lines.{Known}
+use Rattle.event_feed.specs.claims.Feed.{Answer, AreGivenBy, Feed, ends_feed}
+use Rattle.event_feed.specs.Feed.{AnswersNext, PassesLines, answers_from}
+use Rattle.messages.specs.claims.Entries.{event_entries}
+use Rattle.messages.specs.Entries.{notices_in}
+use Rattle.text_lines.specs.claims.Lines.{Known}
 use Rattle.due_feed.specs.Seen.{StopsAmong, is_ended, past_after, past_from, past_of}
 
 -- what an answer makes due after a past

@@ -5,10 +5,12 @@ use Rattle.due_model.specs.declared.config.Config.{Config}
 use Rattle.due_model.specs.declared.event.Event.{Event}
 use Rattle.due_model.specs.declared.notice.Notice.{Notice}
 use Rattle.due_model.specs.declared.zone.Zone.{Zone}
-use Rattle.due_model.specs.Limits.{max_events}
+use Rattle.due_model.specs.claims.Limits.{max_events}
 use Rattle.event_feed.specs.declared.fault.FeedFault.{FeedFault}
-use Rattle.event_feed.specs.Feed.{Answer, AreGivenBy, Feed, feed_of}
-use Rattle.messages.specs.Entries.{event_entries, notices_in}
+use Rattle.event_feed.specs.claims.Feed.{Answer, AreGivenBy, Feed}
+use Rattle.event_feed.specs.Feed.{feed_of}
+use Rattle.messages.specs.claims.Entries.{event_entries}
+use Rattle.messages.specs.Entries.{notices_in}
 
 -- the share of the one decider: all objects
 abbrev pub whole_share : Share

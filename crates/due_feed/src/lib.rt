@@ -2,7 +2,7 @@
 #![tactic(auto)]
 
 ghost use Rattle.std.specs.Prelude.{IfOk, IsErrOf};
-ghost use Rattle.due_model.specs.Accepted.{IsAccepted};
+ghost use Rattle.due_model.specs.claims.Accepted.{IsAccepted};
 ghost use Rattle.due_feed.specs.Seen.{IsSeen, IsStopped, unread};
 
 pub mod looker;

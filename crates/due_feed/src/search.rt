@@ -2,12 +2,14 @@
 
 ghost use Rattle.std.specs.Prelude.{◌≡◌, ◌≤◌, ◌+◌, [], ◌∷◌, List, None, Ok, length, true, false};
 ghost use Rattle.std.specs.Prelude.{IfNone, IfOk, IfSome, IsErrOf};
-ghost use Rattle.decider.specs.Fits.{Fits, core_kept, settings};
-ghost use Rattle.due_model.specs.Accepted.{IsAccepted};
-ghost use Rattle.due_model.specs.Proper.{IsProper};
+ghost use Rattle.decider.specs.claims.Fits.{Fits, core_kept, settings};
+ghost use Rattle.due_model.specs.claims.Accepted.{IsAccepted};
+ghost use Rattle.due_model.specs.claims.Proper.{IsProper};
 ghost use Rattle.due_model.specs.declared.event.Event.{Event};
-ghost use Rattle.event_feed.specs.Feed.{feed_limit, feed_of};
-ghost use Rattle.messages.specs.Entries.{event_entries, notices_in};
+ghost use Rattle.event_feed.specs.claims.Feed.{feed_limit};
+ghost use Rattle.event_feed.specs.Feed.{feed_of};
+ghost use Rattle.messages.specs.claims.Entries.{event_entries};
+ghost use Rattle.messages.specs.Entries.{notices_in};
 ghost use Rattle.due_feed.specs.Seen.{IsSeen, IsStopped, StopsAmong, is_ended, whole_share};
 ghost use Rattle.due_feed.specs.Search.{Ends, GoesOn, Stops};
 

@@ -9,9 +9,9 @@ use Rattle.due_model.specs.declared.event.Event.{Event}
 use Rattle.due_model.specs.declared.event.EventKind.{EventKind}
 use Rattle.due_model.specs.declared.event.EventKind.TheVariants.{Clock, Program, Hard, Downtime, Flapping, Ack, AckRemoved, OwnSwitch}
 use Rattle.due_model.specs.declared.state.State.{State}
-use Rattle.due_model.specs.Acknowledgements.{acked, acknowledges, ends_ack, last_ack, outlasts, since_ack}
-use Rattle.due_model.specs.Readings.{hard, is_problem_state}
-use Rattle.due_model.specs.Rules.{same_state}
+use Rattle.due_model.specs.claims.Acknowledgements.{acked, acknowledges, ends_ack, last_ack, outlasts, since_ack}
+use Rattle.due_model.specs.claims.Readings.{hard, is_problem_state}
+use Rattle.due_model.specs.claims.Rules.{same_state}
 use Rattle.lemmas.proofs.Acknowledgements.{same_state_is, same_state_self}
 use Rattle.lemmas.proofs.Lists.{All-reverse}
 use Rattle.due_laws.specs.Acknowledgements.{ack_at, ack_of, hard_after_feed, IsAcknowledgedBy}

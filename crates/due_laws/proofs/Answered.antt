@@ -12,15 +12,15 @@ use Rattle.due_model.specs.declared.notice.Filter.TheVariants as why
 use Rattle.due_model.specs.declared.notice.Notice.{Notice}
 use Rattle.due_model.specs.declared.notice.Suppression.{Suppression}
 use Rattle.due_model.specs.declared.zone.Zone.{Zone}
-use Rattle.due_model.specs.Due.{uses_lane, notice_to, refusal_of, notices, suppressions, due_at, suppressed_at}
-use Rattle.due_model.specs.Histories.{before, ended_at, hist, number_after, told_for, view}
+use Rattle.due_model.specs.claims.Due.{uses_lane, notice_to, refusal_of, notices, suppressions, due_at, suppressed_at}
+use Rattle.due_model.specs.claims.Histories.{before, ended_at, hist, number_after, told_for, view}
 use Rattle.due_laws.specs.Attempts.{is_of_contact, IsSilent, IsStopped, names, IsNotified, IsRefused, ReachesEach, attempt_of_event, receivers_at}
 use Rattle.due_model.specs.declared.rules.Attempt.{Attempt}
 use Rattle.due_model.specs.declared.rules.View.{View}
-use Rattle.due_model.specs.Receivers.{receivers, rights_for}
+use Rattle.due_model.specs.claims.Receivers.{receivers, rights_for}
 use Rattle.due_model.specs.declared.options.OptionLetters.{OptionLetters}
-use Rattle.due_model.specs.Rules.{asks_options, contact_failing, contact_failing_by, failing, failing_by, first_failing, has_letter, is_untold, letter_of, is_problem, is_recovery, is_of_problem, is_told_in_downtime, is_too_soon}
-use Rattle.due_model.specs.Periods.{in_period}
+use Rattle.due_model.specs.claims.Rules.{asks_options, contact_failing, contact_failing_by, failing, failing_by, first_failing, has_letter, is_untold, letter_of, is_problem, is_recovery, is_of_problem, is_told_in_downtime, is_too_soon}
+use Rattle.due_model.specs.claims.Periods.{in_period}
 use Rattle.lemmas.proofs.Lists.{AllPairs-head, AllPairs-tail}
 use Rattle.lemmas.proofs.Notices.{receivers_increase, the_notice, notice_to_cases}
 use Rattle.due_laws.proofs.Verdicts.{attempt_at, outcome_of_cases}

@@ -9,10 +9,11 @@ use Rattle.due_model.specs.declared.event.EventKind.TheVariants.{Clock, Program,
 use Rattle.due_model.specs.declared.notice.Outcome.{Outcome}
 use Rattle.due_model.specs.declared.state.State.{State}
 use Rattle.due_model.specs.declared.state.State.TheVariants as state
-use Rattle.due_model.specs.Histories.{of_problem, notice_of, notices_sent}
+use Rattle.due_model.specs.claims.Histories.{of_problem, notice_of, notices_sent}
 use Rattle.due_model.specs.Acknowledgements.{is_ok_of}
 use Rattle.due_laws.specs.Readings.{is_pending, is_pending_event, IsBegin}
-use Rattle.due_model.specs.Readings.{moment, hard, hard_after, begins, began, is_ok_state, is_problem_state, is_problem_of}
+use Rattle.due_model.specs.claims.Readings.{moment, hard, hard_after, begins, is_ok_state, is_problem_state, is_problem_of}
+use Rattle.due_model.specs.Readings.{began}
 use Rattle.lemmas.proofs.Lists.{All-reverse}
 use Rattle.due_laws.proofs.ReadingLaws.{reverse_split, count-reverse}
 use Rattle.due_laws.proofs.Verdicts.{and_second}

@@ -8,8 +8,8 @@ use Rattle.due_model.specs.declared.config.Config.{Config}
 use Rattle.due_model.specs.declared.config.Dependency.{Dependency}
 use Rattle.due_model.specs.declared.state.State.{State}
 use Rattle.due_model.specs.declared.zone.Zone.{Zone}
-use Rattle.due_model.specs.Dependencies.{dependency_fails, entry_fails, fails_at}
-use Rattle.due_model.specs.Periods.{in_period}
+use Rattle.due_model.specs.claims.Dependencies.{dependency_fails, entry_fails, fails_at}
+use Rattle.due_model.specs.claims.Periods.{in_period}
 use Rattle.due_laws.specs.Dependencies.{IsFailingChain}
 use Rattle.lemmas.proofs.Dependencies.{Leads as LeadsAlong, leads_fails}
 

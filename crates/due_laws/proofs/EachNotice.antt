@@ -11,13 +11,13 @@ use Rattle.due_model.specs.declared.notice.Notice.{Notice}
 use Rattle.due_model.specs.declared.notice.Outcome.{Outcome}
 use Rattle.due_model.specs.declared.notice.Outcome.TheVariants.{Nothing, Sent, Suppressed}
 use Rattle.due_model.specs.declared.zone.Zone.{Zone}
-use Rattle.due_model.specs.Due.{notices, due_for, due_at}
-use Rattle.due_model.specs.Histories.{before, outcome, hist, host_holds, view, down_with_host, ended_at}
+use Rattle.due_model.specs.claims.Due.{notices, due_for, due_at}
+use Rattle.due_model.specs.claims.Histories.{before, outcome, hist, host_holds, view, down_with_host, ended_at}
 use Rattle.due_laws.specs.Laws.{up_to, TellsOfEvent, NothingHoldsBack}
-use Rattle.due_model.specs.Readings.{moment, hard, flapping, down, is_problem_state}
+use Rattle.due_model.specs.claims.Readings.{moment, hard, flapping, down, is_problem_state}
 use Rattle.due_model.specs.declared.rules.Attempt.{Attempt}
-use Rattle.due_model.specs.Rules.{is_of_problem, is_told_in_downtime}
-use Rattle.due_model.specs.Receivers.{receivers}
+use Rattle.due_model.specs.claims.Rules.{is_of_problem, is_told_in_downtime}
+use Rattle.due_model.specs.claims.Receivers.{receivers}
 use Rattle.lemmas.proofs.Notices.{the_notice, notices_to_each}
 use Rattle.due_laws.proofs.NoticeOrder.{due_at_event, due_for_below}
 use Rattle.due_laws.proofs.Verdicts.{Passes, passes_from_none, and_second, problem_waits_for_downtimes, attempt_at, outcome_cases}

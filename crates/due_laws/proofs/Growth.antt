@@ -6,7 +6,7 @@ use Rattle.due_model.specs.declared.event.Event.{Event}
 use Rattle.due_model.specs.declared.notice.Notice.{Notice}
 use Rattle.due_model.specs.declared.notice.Suppression.{Suppression}
 use Rattle.due_model.specs.declared.zone.Zone.{Zone}
-use Rattle.due_model.specs.Due.{due, due_for, due_at, sup, suppressed_for, suppressed_at}
+use Rattle.due_model.specs.claims.Due.{due, due_for, due_at, sup, suppressed_for, suppressed_at}
 use Rattle.due_laws.specs.Laws.{BeginsWith}
 
 due_for-append : (c : Config) (zone : Zone) (o : ℕ) (object : Object) (l : ℕ) (later past : List Event) → BeginsWith (due_for c zone o object l (later ++ past)) (due_for c zone o object l past)

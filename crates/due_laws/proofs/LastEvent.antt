@@ -7,9 +7,9 @@ use Rattle.due_model.specs.declared.event.EventKind.{EventKind}
 use Rattle.due_model.specs.declared.event.EventKind.TheVariants.{Clock, Program, Hard, Downtime, Flapping, Ack, AckRemoved, OwnSwitch}
 use Rattle.due_model.specs.declared.state.State.{State}
 use Rattle.due_model.specs.declared.state.State.TheVariants.{Pending}
-use Rattle.due_model.specs.Readings.{program_on, switch_after, hard, hard_after, flapping, flapping_after, switched, switched_after}
+use Rattle.due_model.specs.claims.Readings.{program_on, switch_after, hard, hard_after, flapping, flapping_after, switched, switched_after}
 use Rattle.due_model.specs.declared.config.Object.{Object}
-use Rattle.due_model.specs.Histories.{is_enabled}
+use Rattle.due_model.specs.claims.Histories.{is_enabled}
 use Rattle.due_laws.specs.Readings.{hard_state_of, flapping_of, own_switch_of, switch_of, IsOfLastEvent}
 
 module _ {X : Type 0} (gives : EventKind → Option X) (first : X) (reading : List Event → X)

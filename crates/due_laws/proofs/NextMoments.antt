@@ -4,7 +4,7 @@ use Rattle.std.proofs.lemmas.Bool.{cases_eq}
 use Rattle.due_model.specs.declared.config.Config.{Config}
 use Rattle.due_model.specs.declared.config.PeriodId.{PeriodId}
 use Rattle.due_model.specs.declared.zone.Zone.{Zone}
-use Rattle.due_model.specs.Periods.{in_period, reach_of_next, first_passing, next_in}
+use Rattle.due_model.specs.claims.Periods.{in_period, reach_of_next, first_passing, next_in}
 use Rattle.due_laws.specs.Periods.{IsNext}
 
 record IsFirst (passes : ℕ → Bool) (count t m : ℕ) : Type 0 where

@@ -10,12 +10,12 @@ use Rattle.due_model.specs.declared.notice.Notice.{Notice}
 use Rattle.due_model.specs.declared.notice.Outcome.{Outcome}
 use Rattle.due_model.specs.declared.notice.Outcome.TheVariants.{Nothing, Sent, Suppressed}
 use Rattle.due_model.specs.declared.zone.Zone.{Zone}
-use Rattle.due_model.specs.Due.{notice_to, notices, due_for, due_at}
-use Rattle.due_model.specs.Histories.{outcome, hist}
+use Rattle.due_model.specs.claims.Due.{notice_to, notices, due_for, due_at}
+use Rattle.due_model.specs.claims.Histories.{outcome, hist}
 use Rattle.due_model.specs.declared.rules.Attempt.{Attempt}
 use Rattle.due_laws.specs.Laws.{ComesBefore}
 use Rattle.lemmas.proofs.Lists.{AllPairs-nil, AllPairs-head, AllPairs-tail, AllPairs-append}
-use Rattle.due_model.specs.Receivers.{receivers}
+use Rattle.due_model.specs.claims.Receivers.{receivers}
 use Rattle.due_model.specs.declared.options.OptionLetters.{OptionLetters}
 use Rattle.lemmas.proofs.Notices.{receivers_increase, the_notice, notice_to_cases, notices_to_each}
 

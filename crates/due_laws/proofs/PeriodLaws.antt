@@ -10,9 +10,9 @@ use Rattle.due_model.specs.declared.config.Period.{Period}
 use Rattle.due_model.specs.declared.config.PeriodId.{PeriodId}
 use Rattle.due_model.specs.declared.config.Range.{Range}
 use Rattle.due_model.specs.declared.zone.Zone.{Zone}
-use Rattle.due_model.specs.Accepted.{Chain, Excludes, IsAccepted, PeriodFits}
-use Rattle.due_model.specs.Local.{Local, local}
-use Rattle.due_model.specs.Periods.{holds, in_period, in_range, ranges_at}
+use Rattle.due_model.specs.claims.Accepted.{Chain, Excludes, IsAccepted, PeriodFits}
+use Rattle.due_model.specs.claims.Local.{Local, local}
+use Rattle.due_model.specs.claims.Periods.{holds, in_period, in_range, ranges_at}
 use Rattle.lemmas.proofs.Lists.{any_alike, All-slice_get}
 use Rattle.due_laws.specs.Periods.{HoldsByRanges}
 use Rattle.lemmas.proofs.Dependencies.{each_fails}

@@ -16,17 +16,17 @@ use Rattle.due_model.specs.declared.notice.Outcome.TheVariants.{Nothing, Sent, S
 use Rattle.due_model.specs.declared.state.State.{State}
 use Rattle.due_model.specs.declared.state.State.TheVariants as state
 use Rattle.due_model.specs.declared.zone.Zone.{Zone}
-use Rattle.due_model.specs.Histories.{before, of_problem, hist, outcome, view, number_after, notice_of, notices_sent, last_notice, gap_of, down_with_host, ended, ended_at, ended_within, host_holds, lapses, waiting, reach_of}
-use Rattle.due_model.specs.Receivers.{is_heard}
+use Rattle.due_model.specs.claims.Histories.{before, of_problem, hist, outcome, view, number_after, notice_of, notices_sent, last_notice, gap_of, down_with_host, ended, ended_at, ended_within, host_holds, lapses, waiting, reach_of}
+use Rattle.due_model.specs.claims.Receivers.{is_heard}
 use Rattle.due_laws.proofs.Unheard.{silent}
 use Rattle.due_model.specs.declared.notice.Reach.{Reach}
-use Rattle.due_model.specs.Due.{due_for, due_at, notices}
+use Rattle.due_model.specs.claims.Due.{due_for, due_at, notices}
 use Rattle.due_laws.specs.Laws.{last_problem, notice_number, number_carried, up_to, WaitsAreOwn}
 use Rattle.due_laws.proofs.EachNotice.{notices_each, due_for_each, due_at_each}
-use Rattle.due_model.specs.Readings.{begins, is_hard_of}
+use Rattle.due_model.specs.claims.Readings.{begins, is_hard_of}
 use Rattle.due_model.specs.declared.rules.Attempt.{Attempt}
 use Rattle.due_model.specs.declared.rules.Last.{Last}
-use Rattle.due_model.specs.Rules.{has_come, is_problem, is_recovery, is_too_soon, next_notice, same_state}
+use Rattle.due_model.specs.claims.Rules.{has_come, is_problem, is_recovery, is_too_soon, next_notice, same_state}
 use Rattle.due_laws.proofs.Verdicts.{Passes, passes_from_none, and_second, attempt_at, outcome_cases}
 
 -- the outcomes of the last problem after one more event

@@ -13,10 +13,10 @@ use Rattle.due_model.specs.declared.event.DowntimeChange.TheVariants.{Start, End
 use Rattle.due_model.specs.declared.notice.Outcome.{Outcome}
 use Rattle.due_model.specs.declared.notice.Outcome.TheVariants.{Nothing, Sent, Suppressed}
 use Rattle.due_model.specs.declared.zone.Zone.{Zone}
-use Rattle.due_model.specs.Histories.{after_notice, last_notice, ready, retry_after}
+use Rattle.due_model.specs.claims.Histories.{after_notice, last_notice, ready, retry_after}
 use Rattle.due_laws.specs.Readings.{IsGreatestStamp, tries_problem, ready_after, starts_downtime, ends_downtime, starts_in, ends_in, Outnumbers}
-use Rattle.due_model.specs.Readings.{moment, down, depth, depth_after}
-use Rattle.due_model.specs.Rules.{is_problem}
+use Rattle.due_model.specs.claims.Readings.{moment, down, depth, depth_after}
+use Rattle.due_model.specs.claims.Rules.{is_problem}
 use Rattle.lemmas.proofs.Lists.{All-reverse}
 
 pub reverse_split : {X : Type 0} (front : List X) (x : X) (rest : List X) → reverse (front ++ x ∷ rest) ≡ reverse rest ++ x ∷ reverse front

@@ -8,9 +8,10 @@ use Rattle.due_model.specs.declared.event.EventKind.{EventKind}
 use Rattle.due_model.specs.declared.event.EventKind.TheVariants as event
 use Rattle.due_model.specs.declared.state.State.{State}
 use Rattle.due_model.specs.declared.zone.Zone.{Zone}
-use Rattle.due_model.specs.Acknowledgements.{ack_after, acked, acknowledgement, is_removal_of, takes_back}
-use Rattle.due_model.specs.Histories.{hist, is_of_problem_attempt, outcome, released, released_by}
-use Rattle.due_model.specs.Readings.{hard, moment}
+use Rattle.due_model.specs.claims.Acknowledgements.{acked, acknowledgement, is_removal_of, takes_back}
+use Rattle.due_model.specs.Acknowledgements.{ack_after}
+use Rattle.due_model.specs.claims.Histories.{hist, is_of_problem_attempt, outcome, released, released_by}
+use Rattle.due_model.specs.claims.Readings.{hard, moment}
 use Rattle.lemmas.proofs.Acknowledgements.{acked_is, acknowledgement_after}
 use Rattle.due_laws.specs.Acknowledgements.{RemovalEndsAcknowledgements, RemovalIsReady}
 

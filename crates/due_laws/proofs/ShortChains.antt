@@ -3,7 +3,7 @@ use Rattle.std.proofs.Common.{◌≡◌, ℕ, zero, suc, ◌<◌, ◌≤◌, Boo
 use Rattle.std.specs.List.{list_any, IsDistinct}
 use Rattle.std.proofs.lemmas.Bool.{false_from_ne_true}
 use Rattle.std.proofs.lemmas.Map.Steps.{length-le_from_distinct_below}
-use Rattle.due_model.specs.Accepted.{Chain, HasNoLoop}
+use Rattle.due_model.specs.claims.Accepted.{Chain, HasNoLoop}
 use Rattle.lemmas.proofs.Dependencies.{each_fails}
 
 module _ (Step : ℕ → ℕ → Type 0) (n : ℕ) (from_below : (p q : ℕ) → Step p q → p < n) (to_below : (p q : ℕ) → Step p q → q < n) (free : HasNoLoop Step) where

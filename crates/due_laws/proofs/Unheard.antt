@@ -11,9 +11,9 @@ use Rattle.due_model.specs.declared.notice.Notice.{Notice}
 use Rattle.due_model.specs.declared.options.OptionLetters.{OptionLetters}
 use Rattle.due_model.specs.declared.rules.Attempt.{Attempt}
 use Rattle.due_model.specs.declared.zone.Zone.{Zone}
-use Rattle.due_model.specs.Due.{notice_to, uses_lane}
-use Rattle.due_model.specs.Receivers.{is_heard, passes, receivers, rights_for}
-use Rattle.due_model.specs.Rules.{contact_failing}
+use Rattle.due_model.specs.claims.Due.{notice_to, uses_lane}
+use Rattle.due_model.specs.claims.Receivers.{is_heard, passes, receivers, rights_for}
+use Rattle.due_model.specs.claims.Rules.{contact_failing}
 use Rattle.lemmas.proofs.Lists.{All-flat_map}
 use Rattle.lemmas.proofs.Notices.{the_notice}
 

@@ -11,13 +11,13 @@ use Rattle.due_model.specs.declared.notice.Kind.TheVariants as kind
 use Rattle.due_model.specs.declared.notice.Outcome.{Outcome}
 use Rattle.due_model.specs.declared.notice.Outcome.TheVariants.{Nothing, Sent, Suppressed}
 use Rattle.due_model.specs.declared.zone.Zone.{Zone}
-use Rattle.due_model.specs.Histories.{before, of_problem, ready, ready_or, released, status_after, view, number_after, gap_of, judged, outcome_of, outcome, reach_of, ended_at, with_repeat, repeats, timed}
-use Rattle.due_model.specs.Changes.{delayed}
-use Rattle.due_model.specs.Periods.{in_period}
-use Rattle.due_model.specs.Readings.{moment, hard, is_problem_state}
+use Rattle.due_model.specs.claims.Histories.{before, of_problem, ready, ready_or, released, status_after, view, number_after, gap_of, judged, outcome_of, outcome, reach_of, ended_at, with_repeat, repeats, timed}
+use Rattle.due_model.specs.claims.Changes.{delayed}
+use Rattle.due_model.specs.claims.Periods.{in_period}
+use Rattle.due_model.specs.claims.Readings.{moment, hard, is_problem_state}
 use Rattle.due_model.specs.declared.rules.Attempt.{Attempt}
 use Rattle.due_model.specs.declared.rules.View.{View}
-use Rattle.due_model.specs.Rules.{asks_options, attempted, failing, failing_by, first_failing, has_letter, letter_of, is_problem, is_recovery, is_of_problem, is_told_in_downtime, is_too_soon}
+use Rattle.due_model.specs.claims.Rules.{asks_options, attempted, failing, failing_by, first_failing, has_letter, letter_of, is_problem, is_recovery, is_of_problem, is_told_in_downtime, is_too_soon}
 
 -- one test of a list
 none_by_test : (t : Bool) (f : Filter) (tests : List (Bool × Filter)) → first_failing ((t, f) ∷ tests) ≡ None → (t ≡ false) × (first_failing tests ≡ None)

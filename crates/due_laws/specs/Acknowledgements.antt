@@ -7,9 +7,9 @@ use Rattle.due_model.specs.declared.state.State.{State}
 use Rattle.due_model.specs.declared.config.Config.{Config}
 use Rattle.due_model.specs.declared.config.Object.{Object}
 use Rattle.due_model.specs.declared.zone.Zone.{Zone}
-use Rattle.due_model.specs.Acknowledgements.{acked, ends_ack, is_removal_of, takes_back}
-use Rattle.due_model.specs.Histories.{hist, released}
-use Rattle.due_model.specs.Readings.{hard, is_problem_state, moment}
+use Rattle.due_model.specs.claims.Acknowledgements.{acked, ends_ack, is_removal_of, takes_back}
+use Rattle.due_model.specs.claims.Histories.{hist, released}
+use Rattle.due_model.specs.claims.Readings.{hard, is_problem_state, moment}
 
 -- whether an event is an acknowledgement of object o, and then whether it is sticky
 abbrev pub ack_of : ℕ → EventKind → Option Bool

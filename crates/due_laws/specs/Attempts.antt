@@ -10,13 +10,13 @@ use Rattle.due_model.specs.declared.notice.Kind.{Kind}
 use Rattle.due_model.specs.declared.notice.Notice.{Notice}
 use Rattle.due_model.specs.declared.notice.Suppression.{Suppression}
 use Rattle.due_model.specs.declared.zone.Zone.{Zone}
-use Rattle.due_model.specs.Due.{due_at, suppressed_at, uses_lane}
-use Rattle.due_model.specs.Receivers.{receivers, rights_for}
-use Rattle.due_model.specs.Histories.{before, hist, notices_sent, number_after, ready, ready_or, released, repeats, status_after, timed, with_repeat}
-use Rattle.due_model.specs.Changes.{delayed}
+use Rattle.due_model.specs.claims.Due.{due_at, suppressed_at, uses_lane}
+use Rattle.due_model.specs.claims.Receivers.{receivers, rights_for}
+use Rattle.due_model.specs.claims.Histories.{before, hist, notices_sent, number_after, ready, ready_or, released, repeats, status_after, timed, with_repeat}
+use Rattle.due_model.specs.claims.Changes.{delayed}
 use Rattle.due_laws.specs.Laws.{last_problem}
-use Rattle.due_model.specs.Readings.{moment, hard, is_problem_state}
-use Rattle.due_model.specs.Rules.{attempted}
+use Rattle.due_model.specs.claims.Readings.{moment, hard, is_problem_state}
+use Rattle.due_model.specs.claims.Rules.{attempted}
 
 -- whether a filter is one of a contact, or of the object
 abbrev pub is_of_contact : Filter → Bool

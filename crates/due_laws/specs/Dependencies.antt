@@ -4,8 +4,8 @@ use Rattle.due_model.specs.declared.config.Config.{Config}
 use Rattle.due_model.specs.declared.config.Dependency.{Dependency}
 use Rattle.due_model.specs.declared.state.State.{State}
 use Rattle.due_model.specs.declared.zone.Zone.{Zone}
-use Rattle.due_model.specs.Dependencies.{dependency_fails, fails_at}
-use Rattle.due_model.specs.Periods.{in_period}
+use Rattle.due_model.specs.claims.Dependencies.{dependency_fails, fails_at}
+use Rattle.due_model.specs.claims.Periods.{in_period}
 
 -- A chain of entries leads from object o to the master of the last: the first is of o, and each other of the master of the one before
 -- it. The period of each holds at t, all but the last inherit, and the hard state of the last one's master is among its states.

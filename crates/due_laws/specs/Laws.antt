@@ -11,11 +11,11 @@ use Rattle.due_model.specs.declared.notice.Notice.{Notice}
 use Rattle.due_model.specs.declared.notice.Outcome.{Outcome}
 use Rattle.due_model.specs.declared.notice.Outcome.TheVariants.{Nothing, Sent, Suppressed}
 use Rattle.due_model.specs.declared.zone.Zone.{Zone}
-use Rattle.due_model.specs.Due.{due, sup}
-use Rattle.due_model.specs.Histories.{hist, of_problem, notice_of, notices_sent}
-use Rattle.due_model.specs.Readings.{moment, hard, program_on, flapping, down, is_problem_state}
+use Rattle.due_model.specs.claims.Due.{due, sup}
+use Rattle.due_model.specs.claims.Histories.{hist, of_problem, notice_of, notices_sent}
+use Rattle.due_model.specs.claims.Readings.{moment, hard, program_on, flapping, down, is_problem_state}
 use Rattle.due_model.specs.declared.rules.Last.{Last}
-use Rattle.due_model.specs.Rules.{is_of_problem, is_problem, is_recovery}
+use Rattle.due_model.specs.claims.Rules.{is_of_problem, is_problem, is_recovery}
 
 -- one list begins with another
 abbrev pub BeginsWith : {X : Type 0} → List X → List X → Type 0

@@ -1,6 +1,6 @@
 -- The numbers of the limits.
 use Rattle.std.specs.Prelude.{◌≡◌}
-use Rattle.due_model.specs.Limits.{max_objects, max_contacts, max_lanes, max_periods, max_escalations, max_dependencies, max_number, last_moment, day, text_limit, line_limit, max_events, max_deciders}
+use Rattle.due_model.specs.claims.Limits.{max_objects, max_contacts, max_lanes, max_periods, max_escalations, max_dependencies, max_number, last_moment, day, text_limit, line_limit, max_events, max_deciders}
 
 pub record LimitsAreThese : Type 0 where
   pub objects : max_objects ≡ 65_535

@@ -11,8 +11,8 @@ use Rattle.due_model.specs.declared.rules.Attempt.{Attempt}
 use Rattle.due_model.specs.declared.rules.View.{View}
 use Rattle.due_model.specs.declared.state.State.TheVariants as state
 use Rattle.due_model.specs.declared.zone.Zone.TheVariants.{Utc}
-use Rattle.due_model.specs.Options.{every_letter}
-use Rattle.due_model.specs.Rules.{contact_failing, failing}
+use Rattle.due_model.specs.claims.Options.{every_letter}
+use Rattle.due_model.specs.claims.Rules.{contact_failing, failing}
 use Rattle.due_laws.specs.Rows.{base, on_mail}
 
 -- a configuration whose period 0 never holds

@@ -4,9 +4,9 @@ use Rattle.due_model.specs.declared.config.Config.{Config}
 use Rattle.due_model.specs.declared.config.Period.{Period}
 use Rattle.due_model.specs.declared.config.PeriodId.{PeriodId}
 use Rattle.due_model.specs.declared.zone.Zone.{Zone}
-use Rattle.due_model.specs.Accepted.{IsAccepted}
-use Rattle.due_model.specs.Local.{local}
-use Rattle.due_model.specs.Periods.{in_period, next_in, ranges_at}
+use Rattle.due_model.specs.claims.Accepted.{IsAccepted}
+use Rattle.due_model.specs.claims.Local.{local}
+use Rattle.due_model.specs.claims.Periods.{in_period, next_in, ranges_at}
 
 -- some range of the local day has the local second, and none of the periods that this one excludes holds
 pub record HoldsByRanges (c : Config) (zone : Zone) (t : ℕ) (period : Period) : Type 0 where

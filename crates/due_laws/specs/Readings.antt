@@ -12,9 +12,10 @@ use Rattle.due_model.specs.declared.state.State.{State}
 use Rattle.due_model.specs.declared.state.State.TheVariants as state
 use Rattle.due_model.specs.declared.zone.Zone.{Zone}
 use Rattle.due_model.specs.Acknowledgements.{is_ok_of}
-use Rattle.due_model.specs.Histories.{of_problem, notices_sent, last_notice, ready, retry_after, after_notice, is_enabled}
-use Rattle.due_model.specs.Readings.{moment, program_on, hard, flapping, down, began, is_problem_of, is_problem_state, switched}
-use Rattle.due_model.specs.Rules.{is_problem}
+use Rattle.due_model.specs.claims.Histories.{of_problem, notices_sent, last_notice, ready, retry_after, after_notice, is_enabled}
+use Rattle.due_model.specs.claims.Readings.{moment, program_on, hard, flapping, down, is_problem_of, is_problem_state, switched}
+use Rattle.due_model.specs.Readings.{began}
+use Rattle.due_model.specs.claims.Rules.{is_problem}
 
 -- The moment after some events is at least each stamp, and one of them.
 pub record IsGreatestStamp (feed : List Event) (m : ℕ) : Type 0 where

@@ -11,9 +11,9 @@ use Rattle.due_model.specs.declared.rules.Last.{Last}
 use Rattle.due_model.specs.declared.state.State.TheVariants as state
 use Rattle.due_model.specs.declared.zone.Zone.{Zone}
 use Rattle.due_model.specs.declared.zone.Zone.TheVariants.{Utc}
-use Rattle.due_model.specs.Due.{sup}
-use Rattle.due_model.specs.Histories.{retry_after}
-use Rattle.due_model.specs.Options.{every_letter}
+use Rattle.due_model.specs.claims.Due.{sup}
+use Rattle.due_model.specs.claims.Histories.{retry_after}
+use Rattle.due_model.specs.claims.Options.{every_letter}
 use Rattle.due_laws.specs.Rows.{at, base, downtime, has, suppression_row, web}
 
 -- after these events web is down, and the clock ticks 59 and 60 seconds later

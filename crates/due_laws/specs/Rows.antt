@@ -24,9 +24,9 @@ use Rattle.due_model.specs.declared.state.State.TheVariants as state
 use Rattle.due_model.specs.declared.state.StateSet.{StateSet}
 use Rattle.due_model.specs.declared.zone.Zone.TheVariants.{Utc}
 use Rattle.due_model.specs.Choices.{own}
-use Rattle.due_model.specs.Due.{due, sup}
-use Rattle.due_model.specs.Options.{every_letter}
-use Rattle.due_model.specs.Periods.{in_period, next_in}
+use Rattle.due_model.specs.claims.Due.{due, sup}
+use Rattle.due_model.specs.claims.Options.{every_letter}
+use Rattle.due_model.specs.claims.Periods.{in_period, next_in}
 
 abbrev pub on_mail : Rights
 on_mail = record {

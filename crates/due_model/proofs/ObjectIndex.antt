@@ -15,7 +15,8 @@ use Rattle.std.proofs.lemmas.Grind.{get_or-set_at}
 use Rattle.std.proofs.lemmas.Slice.Eq.{bytes_eq-Decides}
 use Rattle.due_model.specs.declared.config.Object.{Object}
 use Rattle.due_model.specs.declared.config.ObjectId.{ObjectId}
-use Rattle.due_model.specs.Objects.{object_id, has_name_at, is_called, is_named, is_named_at, object_named, name_hash, called_hash, object_hash, is_in_bucket, ids_below, IsIndexUpTo, has_hash_at, is_hashed_name}
+use Rattle.due_model.specs.claims.Objects.{object_id, has_name_at, is_called, is_named, object_named}
+use Rattle.due_model.specs.Objects.{is_named_at, name_hash, called_hash, object_hash, is_in_bucket, ids_below, IsIndexUpTo, has_hash_at, is_hashed_name}
 
 pub get_or-replicate_nil : {A : Type 0} (n k : ℕ) → get_or (replicate {A = List A} n []) k [] ≡ []
 get_or-replicate_nil zero k = refl

@@ -2,9 +2,9 @@
 
 ghost use Rattle.std.specs.Prelude.{◌≡◌};
 ghost use Rattle.due_model.specs.Choices.{nagios, own};
-ghost use Rattle.due_model.specs.Due.{uses_lane};
-ghost use Rattle.due_model.specs.Escalations.{has_contact};
-ghost use Rattle.due_model.specs.Histories.{is_enabled};
+ghost use Rattle.due_model.specs.claims.Due.{uses_lane};
+ghost use Rattle.due_model.specs.claims.Escalations.{has_contact};
+ghost use Rattle.due_model.specs.claims.Histories.{is_enabled};
 
 use crate::dependencies::Dependencies;
 use crate::escalations::Escalations;

@@ -4,9 +4,11 @@ ghost use Rattle.std.specs.Prelude.{◌≡◌, ◌≤◌, length, map, find, fol
 ghost use Rattle.std.specs.Int.{from_le_bytes, w64};
 ghost use Rattle.std.specs.Str.{bytes_eq};
 ghost use Rattle.std.specs.Option.{option_copied};
-ghost use Rattle.due_model.specs.Limits.{max_objects};
-ghost use Rattle.due_model.specs.Objects.{IsIndexUpTo, has_hash_at, has_name_at, hash_of, is_hashed_name};
-ghost use Rattle.due_model.specs.Objects.{is_named_at, mixed, name_hash, object_hash, object_named};
+ghost use Rattle.due_model.specs.claims.Limits.{max_objects};
+ghost use Rattle.due_model.specs.claims.Objects.{has_name_at};
+ghost use Rattle.due_model.specs.Objects.{IsIndexUpTo, has_hash_at, hash_of, is_hashed_name};
+ghost use Rattle.due_model.specs.claims.Objects.{object_named};
+ghost use Rattle.due_model.specs.Objects.{is_named_at, mixed, name_hash, object_hash};
 
 use crate::config::{Object, ObjectId};
 use graph::lists::{Lists, ListsBuilder};

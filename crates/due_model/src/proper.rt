@@ -1,8 +1,8 @@
 //! Which events are proper for a configuration.
 
 ghost use Rattle.std.specs.Prelude.{◌≡◌, ◌↔◌, IsTrue, is_some, ◌<◌, length};
-ghost use Rattle.due_model.specs.Accepted.{HasObject};
-ghost use Rattle.due_model.specs.Proper.{is_state_of, IsProper, KindIsProper};
+ghost use Rattle.due_model.specs.claims.Accepted.{HasObject};
+ghost use Rattle.due_model.specs.claims.Proper.{is_state_of, IsProper, KindIsProper};
 
 use crate::config::{Config, ObjectId};
 use crate::event::{Event, EventKind};

@@ -1,15 +1,18 @@
 //! The rules of what an event changes and what it attempts, over values already read.
 
 ghost use Rattle.std.specs.Prelude.{◌≡◌, ◌+◌, ◌^◌, ◌<◌, Some, IfSome};
-ghost use Rattle.due_model.specs.Readings.{is_ok_state, is_problem_state, switch_after, hard_after};
-ghost use Rattle.due_model.specs.Readings.{depth_changed, is_hard_of, is_problem_of, switched_after};
-ghost use Rattle.due_model.specs.Acknowledgements.{ack_after, is_removal_of, kept_in_state};
-ghost use Rattle.due_model.specs.Rules.{asks_options, attempted, attempted_by_ack, attempted_by_state, attempted_by_downtime};
-ghost use Rattle.due_model.specs.Rules.{attempted_by_flapping, downtime_kind, has_come, state_letter};
-ghost use Rattle.due_model.specs.Rules.{letter_of, has_letter, meets, with_letter, is_too_soon, next_notice, same_state};
-ghost use Rattle.due_model.specs.Rules.{is_problem, is_recovery, is_of_problem, is_told_in_downtime};
-ghost use Rattle.due_model.specs.Dependencies.{counted, fails_at, has_state};
-ghost use Rattle.due_model.specs.Histories.{number_after};
+ghost use Rattle.due_model.specs.claims.Readings.{is_ok_state, is_problem_state, switch_after, hard_after};
+ghost use Rattle.due_model.specs.claims.Readings.{depth_changed, is_hard_of, is_problem_of, switched_after};
+ghost use Rattle.due_model.specs.claims.Acknowledgements.{is_removal_of};
+ghost use Rattle.due_model.specs.Acknowledgements.{ack_after, kept_in_state};
+ghost use Rattle.due_model.specs.claims.Rules.{asks_options, attempted, attempted_by_ack, attempted_by_state};
+ghost use Rattle.due_model.specs.claims.Rules.{attempted_by_downtime};
+ghost use Rattle.due_model.specs.claims.Rules.{attempted_by_flapping, downtime_kind, has_come, state_letter};
+ghost use Rattle.due_model.specs.claims.Rules.{letter_of, has_letter, meets, with_letter, is_too_soon, next_notice};
+ghost use Rattle.due_model.specs.claims.Rules.{same_state};
+ghost use Rattle.due_model.specs.claims.Rules.{is_problem, is_recovery, is_of_problem, is_told_in_downtime};
+ghost use Rattle.due_model.specs.claims.Dependencies.{counted, fails_at, has_state};
+ghost use Rattle.due_model.specs.claims.Histories.{number_after};
 
 use crate::config::{ObjectId, PeriodId};
 use crate::event::{Acknowledgement, DowntimeChange, EventKind};

@@ -3,7 +3,8 @@ use Rattle.std.proofs.Common.{◌≡◌, ◌≢◌, ◌⊎◌, ℕ, ◌+◌, ◌
 use Rattle.std.specs.Prelude.{slice_set}
 use Rattle.std.proofs.lemmas.Bool.{cases_eq, cases_lt}
 use Rattle.std.proofs.lemmas.Grind.{common_steps}
-use Rattle.due_times.specs.Index.{Sets, at, earlier}
+use Rattle.due_times.specs.claims.Index.{at}
+use Rattle.due_times.specs.Index.{Sets, earlier}
 use Rattle.due_times.specs.Levels.{ArePaired, IsAbove, level}
 
 -- a moment was put at a place

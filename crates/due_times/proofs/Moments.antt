@@ -2,7 +2,8 @@
 use Rattle.std.proofs.Common.{◌≡◌, ℕ, zero, suc, ◌+◌, ◌*◌, ◌<◌, ◌≤◌, ◌⊎◌, inl, inr, Bool, true, false, List, Option, Some, None, nat_lt, refl, sym, ◌∙◌, arith}
 use Rattle.std.proofs.lemmas.Bool.{cases_eq}
 use Rattle.std.proofs.lemmas.Grind.{common_steps}
-use Rattle.due_times.specs.Index.{IsFirst, at, earlier, is_earlier}
+use Rattle.due_times.specs.claims.Index.{at}
+use Rattle.due_times.specs.Index.{IsFirst, earlier, is_earlier}
 use Rattle.due_times.specs.Levels.{IsAbove}
 
 -- what comes after a moment that is the earlier of two comes after both

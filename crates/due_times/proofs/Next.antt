@@ -5,8 +5,9 @@ use Rattle.std.proofs.lemmas.List.{get_or_default}
 use Rattle.std.proofs.Math.Nat.{add_comm, add-mod-mod, mod-eq_of_lt, mod-lt}
 use Rattle.std.specs.Prelude.{IfNone, IfSome}
 use Rattle.std.proofs.lemmas.Grind.{common_steps}
-use Rattle.due_model.specs.Rules.{has_come}
-use Rattle.due_times.specs.Index.{IsNextDue, NoneIsDueFrom, NothingIsDue, Sets, at, due_count, earlier, left_at}
+use Rattle.due_model.specs.claims.Rules.{has_come}
+use Rattle.due_times.specs.claims.Index.{at}
+use Rattle.due_times.specs.Index.{IsNextDue, NoneIsDueFrom, NothingIsDue, Sets, due_count, earlier, left_at}
 use Rattle.due_times.specs.Levels.{ArePaired, IsAbove, level}
 use Rattle.due_times.proofs.Moments.{halves}
 use Rattle.due_times.proofs.Climbing.{entry_within}

@@ -2,7 +2,8 @@
 use Rattle.std.proofs.Common.{◌≡◌, ℕ, zero, suc, ◌+◌, ◌-◌, ◌*◌, ◌<◌, ◌≤◌, ◌⊎◌, inl, inr, Bool, true, false, List, [], ◌∷◌, length, Option, Some, None, nat_lt, refl, sym, arith}
 use Rattle.std.specs.Prelude.{IfNone, IfSome}
 use Rattle.std.proofs.lemmas.Grind.{common_steps}
-use Rattle.due_times.specs.Index.{NothingIsDue, at, earlier}
+use Rattle.due_times.specs.claims.Index.{at}
+use Rattle.due_times.specs.Index.{NothingIsDue, earlier}
 use Rattle.due_times.specs.Levels.{ArePaired, IsAbove, leaves, level}
 use Rattle.due_times.proofs.Moments.{halves}
 use Rattle.due_times.proofs.Climbing.{entry_within}

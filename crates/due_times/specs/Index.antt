@@ -1,15 +1,7 @@
 -- An index of moments by object number.
-use Rattle.std.specs.Prelude.{◌≡◌, ◌≢◌, ℕ, ◌<◌, ◌≤◌, Bool, true, false, List, length, filter, slice_index_or, nat_lt, Option, Some, None, if◌then◌else◌}
-use Rattle.due_model.specs.Rules.{has_come}
-
--- the moments by object number, and how many entries were handed out, modulo 2^64
-pub record Due : Type 0 where
-  pub moments : List (Option ℕ)
-  pub examined : ℕ
-
--- the moment of an object; none beyond the last
-abbrev pub at : List (Option ℕ) → ℕ → Option ℕ
-at moments place = slice_index_or moments place None
+use Rattle.std.specs.Prelude.{◌≡◌, ◌≢◌, ℕ, ◌<◌, ◌≤◌, Bool, true, false, List, length, filter, nat_lt, Option, Some, None, if◌then◌else◌}
+use Rattle.due_model.specs.claims.Rules.{has_come}
+use Rattle.due_times.specs.claims.Index.{at}
 
 -- whether one moment comes before another; none comes after every moment
 abbrev pub is_earlier : Option ℕ → Option ℕ → Bool

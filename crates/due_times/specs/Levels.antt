@@ -1,6 +1,7 @@
 -- How an index is kept: levels, each of which has the earlier of each two moments of the one below.
 use Rattle.std.specs.Prelude.{◌≡◌, ℕ, ◌+◌, ◌*◌, ◌-◌, ◌<◌, ◌≤◌, List, [], length, slice_index_or, Option}
-use Rattle.due_times.specs.Index.{at, earlier}
+use Rattle.due_times.specs.claims.Index.{at}
+use Rattle.due_times.specs.Index.{earlier}
 
 -- one level is above another: its places stand for two places each
 pub record IsAbove (below above : List (Option ℕ)) : Type 0 where

@@ -2,7 +2,8 @@
 
 ghost use Rattle.std.specs.Prelude.{◌≡◌, ◌+◌, ◌*◌, ◌<◌, ◌≤◌, None, length};
 ghost use Rattle.std.specs.Prelude.{slice_set, IfOk};
-ghost use Rattle.due_times.specs.Index.{at, earlier, is_earlier};
+ghost use Rattle.due_times.specs.claims.Index.{at};
+ghost use Rattle.due_times.specs.Index.{earlier, is_earlier};
 ghost use Rattle.due_times.specs.Levels.{IsAbove};
 
 use std::alloc::{AllocError, Global};

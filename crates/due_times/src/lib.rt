@@ -7,8 +7,9 @@ mod level;
 ghost use Rattle.std.specs.Prelude.{◌≡◌, ◌↔◌, IsTrue, ◌+◌, ◌-◌, ◌%◌, ◌^◌};
 ghost use Rattle.std.specs.Prelude.{◌<◌, ◌≤◌, ℕ, List, [], Option, None, Some, IsOk, IfNone};
 ghost use Rattle.std.specs.Prelude.{IfOk, IfSome, OnOk, OnErr, length, if◌then◌else◌, ◌*◌};
-ghost use Rattle.due_model.specs.Rules.{has_come};
-ghost use Rattle.due_times.specs.Index.{IsFirst, IsFirstDue, NothingIsDue, SameEntries, Sets, at};
+ghost use Rattle.due_model.specs.claims.Rules.{has_come};
+ghost use Rattle.due_times.specs.claims.Index.{at};
+ghost use Rattle.due_times.specs.Index.{IsFirst, IsFirstDue, NothingIsDue, SameEntries, Sets};
 ghost use Rattle.due_times.specs.Index.{IsNextDue, NoneIsDueFrom, due_count, left_at};
 ghost use Rattle.due_times.specs.Levels.{ArePaired, IsAbove, leaves, level};
 
@@ -34,7 +35,7 @@ pub struct Index {
 
 impl Model for Index {
     ghost use Rattle.std.specs.Prelude.{◌≤◌, length};
-    ghost use Rattle.due_times.specs.Index.{Due};
+    ghost use Rattle.due_times.specs.claims.Index.{Due};
     ghost use Rattle.due_times.specs.Levels.{ArePaired, leaves};
 
     ghost Value = { Due };

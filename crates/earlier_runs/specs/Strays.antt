@@ -2,7 +2,7 @@
 use Rattle.std.specs.Prelude.{◌≡◌, ℕ, ◌-◌, ◌<◌, ◌==◌, ◌&&◌, All, Bool, Contains, true, false, nat_le, nat_lt, List, length, min, slice_index, Option, None, Some}
 use Rattle.due_model.specs.declared.config.Config.{Config}
 use Rattle.journal_folder.specs.FileName.{file_name}
-use Rattle.notice_text.specs.Texts.{lane_text}
+use Rattle.notice_text.specs.claims.Texts.{lane_text}
 
 -- it ends with a point and the number of a channel
 abbrev pub is_journal_name : (name : List ℕ) → Bool

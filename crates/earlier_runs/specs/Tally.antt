@@ -1,10 +1,10 @@
 -- The line of what a lane's journals come to.
 use Rattle.std.specs.Prelude.{◌≡◌, ◌↔◌, ℕ, Bool, IsTrue, Contains, List, [], ◌∷◌, ◌++◌, codes, decimal, filter, length}
-use Rattle.command_output.specs.Fields.{field}
+use Rattle.command_output.specs.claims.Fields.{field}
 use Rattle.due_model.specs.declared.config.Config.{Config}
 use Rattle.due_model.specs.declared.notice.Notice.{Notice}
 use Rattle.journaled.specs.Claims.{Past, is_new, is_settled}
-use Rattle.notice_text.specs.Texts.{lane_text}
+use Rattle.notice_text.specs.claims.Texts.{lane_text}
 use Rattle.earlier_runs.specs.declared.tally.LaneTally.{LaneTally}
 
 -- the line of a lane: J;lane;earlier;claimed;new;again

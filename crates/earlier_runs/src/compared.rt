@@ -2,8 +2,8 @@
 
 ghost use Rattle.std.specs.Prelude.{◌≡◌, ◌≤◌, ◌-◌, ◌==◌, ℕ, [], List, map, IfNone, IfOk, IfSome, Some, if◌then◌else◌, length, slice_index_or};
 ghost use Rattle.due_feed.specs.Seen.{due_of, past_of, unread};
-ghost use Rattle.due_model.specs.Accepted.{IsAccepted};
-ghost use Rattle.event_feed.specs.Feed.{Answer, AreGivenBy};
+ghost use Rattle.due_model.specs.claims.Accepted.{IsAccepted};
+ghost use Rattle.event_feed.specs.claims.Feed.{Answer, AreGivenBy};
 ghost use Rattle.earlier_runs.specs.Compared.{AreLong, IsFirstLeft, IsShort, TellsChange};
 
 use crate::left::LaneState;

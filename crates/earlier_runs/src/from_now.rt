@@ -3,8 +3,8 @@
 ghost use Rattle.std.specs.Prelude.{◌≡◌, ◌<◌, [], ◌∷◌, length, min, IfOk, List, OnOk, true, false};
 ghost use Rattle.std.specs.Arc.{arc_value};
 ghost use Rattle.due_feed.specs.Seen.{due_of, past_of, unread};
-ghost use Rattle.event_feed.specs.Feed.{Answer, AreGivenBy};
-ghost use Rattle.due_model.specs.Accepted.{IsAccepted};
+ghost use Rattle.event_feed.specs.claims.Feed.{Answer, AreGivenBy};
+ghost use Rattle.due_model.specs.claims.Accepted.{IsAccepted};
 ghost use Rattle.due_model.specs.declared.config.LaneId.{LaneId};
 ghost use Rattle.journaled.specs.Claims.{IsHeld};
 ghost use Rattle.earlier_runs.specs.FromNow.{AreBegun, GivesUpAll, HasGivenUp, WritesAt};

@@ -1,7 +1,7 @@
 //! The line of what a lane's journals come to.
 
 ghost use Rattle.std.specs.Prelude.{◌≡◌, ◌↔◌, ◌∷◌, ◌++◌, [], cond, decimal, filter, Bool, Contains, IfOk, IsTrue, OnOk};
-ghost use Rattle.command_output.specs.Fields.{field};
+ghost use Rattle.command_output.specs.claims.Fields.{field};
 ghost use Rattle.due_model.specs.declared.notice.Notice.{Notice};
 ghost use Rattle.earlier_runs.specs.Tally.{IsTally, journal_line};
 

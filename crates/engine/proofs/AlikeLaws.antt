@@ -6,10 +6,10 @@ use Rattle.std.proofs.lemmas.List.Elements.{All-cons, All-filter, All-head, All-
 use Rattle.due_model.specs.declared.notice.Notice.{Notice}
 use Rattle.due_model.specs.declared.notice.Suppression.{Suppression}
 use Rattle.lemmas.proofs.Lists.{AllPairs-tail}
-use Rattle.decider_thread.specs.Order.{place}
-use Rattle.engine_threads.specs.Run.{IsNamed}
+use Rattle.decider_thread.specs.claims.Order.{place}
+use Rattle.engine_threads.specs.claims.Run.{IsNamed}
 use Rattle.engine.specs.Alike.{RunsAreAlike}
-use Rattle.engine.specs.Lanes.{joined}
+use Rattle.engine.specs.claims.Lanes.{joined}
 
 -- ---- lists in order that agree on each key
 

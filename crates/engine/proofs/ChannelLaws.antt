@@ -6,13 +6,15 @@ use Rattle.std.proofs.lemmas.Option.{none-some}
 use Rattle.due_model.specs.declared.config.Config.{Config}
 use Rattle.due_model.specs.declared.notice.Notice.{Notice}
 use Rattle.delivery_worker.specs.declared.worker.Served.{Served}
-use Rattle.channel.specs.Channels.{Account, Offer}
-use Rattle.delivery_worker.specs.Channels.{HasBeenLeft, HasServed, HaveServed, records_in}
+use Rattle.channel.specs.claims.Channels.{Account, Offer}
+use Rattle.delivery_worker.specs.claims.Channels.{HasBeenLeft, HasServed, HaveServed}
+use Rattle.delivery_worker.specs.Channels.{records_in}
 use Rattle.delivery_worker.specs.Picked.{joined as joined_of}
 use Rattle.engine_threads.specs.Lanes.{HasCause, HaveTaken as HaveServedSo}
 use Rattle.undelivered.specs.declared.Why.{Why}
 use Rattle.undelivered.specs.declared.Why.TheVariants as why
-use Rattle.engine.specs.Lanes.{HaveTaken, IsEndOf, LaneParts, joined}
+use Rattle.engine.specs.claims.Lanes.{HaveTaken, LaneParts, joined}
+use Rattle.engine.specs.Lanes.{IsEndOf}
 use Rattle.engine.proofs.RecordLaws.{records_some}
 use Rattle.engine.proofs.RunEndLaws.{joined_same}
 

@@ -4,8 +4,8 @@ use Rattle.std.specs.List.{AllZip}
 use Rattle.std.proofs.lemmas.List.Elements.{All-append, All-same}
 use Rattle.due_model.specs.declared.config.Config.{Config}
 use Rattle.due_model.specs.declared.event.Event.{Event}
-use Rattle.due_model.specs.Limits.{max_events}
-use Rattle.due_model.specs.Proper.{IsProper}
+use Rattle.due_model.specs.claims.Limits.{max_events}
+use Rattle.due_model.specs.claims.Proper.{IsProper}
 use Rattle.caller_feeds.specs.declared.end.FeedEnd.{FeedEnd}
 use Rattle.caller_feeds.specs.declared.intake.IntakeStop.{IntakeStop}
 use Rattle.caller_feeds.specs.Feeds.{IsSameEnd}

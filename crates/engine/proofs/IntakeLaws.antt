@@ -8,18 +8,20 @@ use Rattle.std.proofs.lemmas.List.Folds.{list_any-append, list_any_none}
 use Rattle.std.proofs.lemmas.Option.{IfSome_then}
 use Rattle.due_model.specs.declared.config.Config.{Config}
 use Rattle.due_model.specs.declared.event.Event.{Event}
-use Rattle.due_model.specs.Limits.{max_events}
-use Rattle.due_model.specs.Proper.{IsProper}
+use Rattle.due_model.specs.claims.Limits.{max_events}
+use Rattle.due_model.specs.claims.Proper.{IsProper}
 use Rattle.event_feed.specs.declared.fault.FeedFault.{FeedFault}
 use Rattle.event_feed.specs.declared.fault.FeedFault.TheVariants.{Ended, NoMemory}
 use Rattle.event_feed.specs.declared.fault.RefusedLine.{RefusedLine}
 use Rattle.text_lines.specs.declared.line_reader.Stop.{Stop}
 use Rattle.text_lines.specs.declared.line_reader.Stop.TheVariants.{InputEnded, CutLine, ReaderFailed, TooManyCalls, TooManyBytes, TooManyLines}
-use Rattle.event_feed.specs.Fault.{is_ahead, is_line_fault, stop_fault}
-use Rattle.event_feed.specs.Feed.{Answer, AnswersNextWithin, AreGivenByWithin, refusal, FaultFits, Feed, GivesEventWithin, GivesFaultWithin, GivesNoneWithin, answers_from_within, no_line, PassesLines, ends_feed}
-use Rattle.text_lines.specs.Lines.{Known, pieces}
-use Rattle.engine.specs.Feed.{AreFrontOfFeed, AreHeldBack, CameFirst, Goes, HasEnded, HasRead, HasTaken, Intake, IsFrontOfFeed, IsOver, IsStart, Kept, NoneIsAhead, Offers, accepted, ahead_in, count_after, ended, event_in, events_in, is_cut, is_held_back, is_unnumbered, refused_in, refusals_in, taken_after}
-use Rattle.engine.specs.Lists.{IsFrontOf}
+use Rattle.event_feed.specs.claims.Fault.{is_ahead, is_line_fault, stop_fault}
+use Rattle.event_feed.specs.claims.Feed.{Answer, AnswersNextWithin, AreGivenByWithin, refusal, FaultFits, Feed, GivesEventWithin, GivesFaultWithin, GivesNoneWithin, answers_from_within, no_line, ends_feed}
+use Rattle.event_feed.specs.Feed.{PassesLines}
+use Rattle.text_lines.specs.claims.Lines.{Known, pieces}
+use Rattle.engine.specs.claims.Feed.{NoneIsAhead, ahead_in, count_after, event_in, events_in, is_cut, is_unnumbered, refused_in, refusals_in, taken_after}
+use Rattle.engine.specs.Feed.{AreFrontOfFeed, AreHeldBack, CameFirst, Goes, HasEnded, HasRead, HasTaken, Intake, IsFrontOfFeed, IsOver, IsStart, Kept, Offers, accepted, ended, is_held_back}
+use Rattle.engine.specs.claims.Lists.{IsFrontOf}
 use Rattle.event_feed.specs.FeedLaws.{known_same, known_then, Passed, passed_more, event_passes_within, fault_passes_within, next_given_within, none_given_within, fault_last_within, fault_next_within, event_answers_within, earlier_more, then_by_within}
 
 -- ---- what is given of a feed

@@ -6,8 +6,9 @@ use Rattle.std.proofs.Math.Seq.{take-append_seam}
 use Rattle.due_model.specs.declared.config.Config.{Config}
 use Rattle.event_feed.specs.declared.fault.FeedFault.TheVariants.{NoMemory}
 use Rattle.event_feed.specs.declared.fault.RefusedLine.{RefusedLine}
-use Rattle.event_feed.specs.Feed.{Answer, Feed}
-use Rattle.engine.specs.Feed.{AreHeldBack, AreTaken, HasRead, Intake, IsLeft, IsOver, NoneIsAhead, ahead_in, events_in, is_cut, refusals_in}
+use Rattle.event_feed.specs.claims.Feed.{Answer, Feed}
+use Rattle.engine.specs.claims.Feed.{AreTaken, NoneIsAhead, ahead_in, events_in, is_cut, refusals_in}
+use Rattle.engine.specs.Feed.{AreHeldBack, HasRead, Intake, IsLeft, IsOver}
 use Rattle.engine.proofs.IntakeLaws.{front_of, held_same, read_said}
 
 -- just those lines are too far ahead that are refused so, by the refused lines

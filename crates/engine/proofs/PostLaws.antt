@@ -6,7 +6,7 @@ use Rattle.std.proofs.lemmas.List.Elements.{filter-append}
 use Rattle.std.proofs.lemmas.List.Sums.{count_by-le-length, length-filter}
 use Rattle.std.proofs.lemmas.Option.{same_Some, slice_get_within}
 use Rattle.engine_threads.specs.ListLaws.{set_other, set_same}
-use Rattle.engine.specs.Lanes.{channels_on, count_of}
+use Rattle.engine.specs.claims.Lanes.{channels_on, count_of}
 
 module _ {P X : Type 0} (lane : P → ℕ) (channel : P → X) (l : ℕ) where
   -- the channels of some posts, and then of others

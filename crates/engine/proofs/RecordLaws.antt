@@ -4,7 +4,7 @@ use Rattle.std.proofs.lemmas.Bool.{ne_eqb}
 use Rattle.std.proofs.lemmas.List.{append-nil, take_more}
 use Rattle.std.proofs.lemmas.Option.{slice_get_past}
 use Rattle.due_model.specs.declared.notice.Notice.{Notice}
-use Rattle.delivery_worker.specs.Picked.{join_lists}
+use Rattle.delivery_worker.specs.claims.Picked.{join_lists}
 use Rattle.undelivered.specs.Record.{Record}
 use Rattle.engine.specs.Lanes.{records_of}
 

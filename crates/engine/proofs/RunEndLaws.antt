@@ -9,31 +9,37 @@ use Rattle.due_model.specs.declared.event.Event.{Event}
 use Rattle.due_model.specs.declared.notice.Notice.{Notice}
 use Rattle.due_model.specs.declared.notice.Suppression.{Suppression}
 use Rattle.due_model.specs.declared.zone.Zone.{Zone}
-use Rattle.due_model.specs.Due.{due, sup}
-use Rattle.due_model.specs.Proper.{IsProper}
+use Rattle.due_model.specs.claims.Due.{due, sup}
+use Rattle.due_model.specs.claims.Proper.{IsProper}
 use Rattle.delivery_worker.specs.declared.worker.Served.{Served}
-use Rattle.delivery_worker.specs.Picked.{all_taken, join_lists, joined as joined_of}
+use Rattle.delivery_worker.specs.claims.Picked.{join_lists}
+use Rattle.delivery_worker.specs.Picked.{all_taken, joined as joined_of}
 use Rattle.engine_threads.specs.Lanes.{HasCause}
-use Rattle.engine_threads.specs.Run.{IsNamed, IsRun}
+use Rattle.engine_threads.specs.claims.Run.{IsNamed}
+use Rattle.engine_threads.specs.Run.{IsRun}
 use Rattle.engine_threads.specs.Told.{HaveTold}
-use Rattle.decider_thread.specs.Laws.{of_object}
+use Rattle.decider_thread.specs.claims.Laws.{of_object}
 use Rattle.decider_thread.specs.Made.{suppressed}
 use Rattle.decider_thread.specs.Told.{tells_nothing}
 use Rattle.event_feed.specs.declared.fault.FeedFault.TheVariants as fault
 use Rattle.event_feed.specs.declared.fault.RefusedLine.{RefusedLine}
-use Rattle.event_feed.specs.Feed.{Answer, AreGiven, Feed, answers_within}
+use Rattle.event_feed.specs.claims.Feed.{Answer, AreGiven, Feed, answers_within}
 use Rattle.lemmas.proofs.Lists.{AllPairs-nil, some_at}
-use Rattle.decider_thread.specs.Order.{place}
-use Rattle.steps.specs.Lanes.{about}
-use Rattle.text_lines.specs.Lines.{pieces}
+use Rattle.decider_thread.specs.claims.Order.{place}
+use Rattle.steps.specs.claims.Lanes.{about}
+use Rattle.text_lines.specs.claims.Lines.{pieces}
 use Rattle.undelivered.specs.declared.Why.{Why}
 use Rattle.undelivered.specs.declared.Why.TheVariants as why
-use Rattle.engine.specs.Due.{BeginsLog, BeginsLogAfter, HaveCauses, IsLog, IsLogAfter, LanesAreDue, LanesBeginDue, LanesKeepDue}
-use Rattle.engine.specs.Feed.{IsFirst, IsFrontRead, IsLeft, IsWhatWasRead, events_in, events_of, taken_after}
-use Rattle.engine.specs.Lanes.{IsCause, IsEndOf, LaneParts, joined}
-use Rattle.engine.specs.Lists.{IsFrontOf}
+use Rattle.engine.specs.claims.Due.{BeginsLogAfter, HaveCauses, IsLogAfter, LanesAreDue, LanesBeginDue, LanesKeepDue}
+use Rattle.engine.specs.Due.{BeginsLog, IsLog}
+use Rattle.engine.specs.claims.Feed.{IsFrontRead, IsWhatWasRead, events_in, events_of, taken_after}
+use Rattle.engine.specs.Feed.{IsFirst, IsLeft}
+use Rattle.engine.specs.claims.Lanes.{IsCause, LaneParts, joined}
+use Rattle.engine.specs.Lanes.{IsEndOf}
+use Rattle.engine.specs.claims.Lists.{IsFrontOf}
 use Rattle.engine.proofs.RecordLaws.{join_push, records_none, records_some}
-use Rattle.engine.specs.Run.{AreThreadsEnd, IsReadOf, IsRunAfter, IsRunOf, IsToldRunOf}
+use Rattle.engine.specs.claims.Run.{IsReadOf, IsRunAfter, IsRunOf}
+use Rattle.engine.specs.Run.{AreThreadsEnd, IsToldRunOf}
 
 -- ---- of a feed of which nothing was read before
 

@@ -4,10 +4,11 @@ use Rattle.due_model.specs.declared.config.Config.{Config}
 use Rattle.due_model.specs.declared.event.Event.{Event}
 use Rattle.due_model.specs.declared.notice.Suppression.{Suppression}
 use Rattle.due_model.specs.declared.zone.Zone.{Zone}
-use Rattle.due_model.specs.Accepted.{IsAccepted}
-use Rattle.steps.specs.Lanes.{about}
-use Rattle.engine.specs.Due.{IsLog, LanesAreDue}
-use Rattle.engine.specs.Lanes.{LaneParts, joined}
+use Rattle.due_model.specs.claims.Accepted.{IsAccepted}
+use Rattle.steps.specs.claims.Lanes.{about}
+use Rattle.engine.specs.claims.Due.{LanesAreDue}
+use Rattle.engine.specs.Due.{IsLog}
+use Rattle.engine.specs.claims.Lanes.{LaneParts, joined}
 
 -- There are as many lanes, and of each object each lane has the same notices, in the same order, taken or given up.
 pub record AreAlike (lanes others : List LaneParts) : Type 0 where

@@ -2,8 +2,8 @@
 use Rattle.std.specs.Prelude.{◌≡◌, ◌≤◌, ◌⊎◌, Bool, false, true, All, List, length, Option, None, Some, ⊤}
 use Rattle.due_model.specs.declared.config.Config.{Config}
 use Rattle.due_model.specs.declared.event.Event.{Event}
-use Rattle.due_model.specs.Limits.{max_events}
-use Rattle.due_model.specs.Proper.{IsProper}
+use Rattle.due_model.specs.claims.Limits.{max_events}
+use Rattle.due_model.specs.claims.Proper.{IsProper}
 use Rattle.caller_feeds.specs.declared.end.FeedEnd.{FeedEnd}
 use Rattle.caller_feeds.specs.Feeds.{NothingWaits}
 use Rattle.caller_feeds.specs.Taken.{AreOver, GoesOn, SomeAwaits}

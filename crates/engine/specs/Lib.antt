@@ -1,4 +1,4 @@
-pub mod Lists
+pub mod claims
 pub mod Logs
 pub mod Lanes
 pub mod Feed
@@ -7,4 +7,3 @@ pub mod Due
 pub mod Alike
 pub mod Feeds
 pub mod Run
-pub mod Unread

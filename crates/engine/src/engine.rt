@@ -1,13 +1,14 @@
 //! The engine.
 
 ghost use Rattle.std.specs.Prelude.{◌≡◌, ◌≤◌, ℕ, Bool, true, length, slice_get, IfOk, Some};
-ghost use Rattle.due_model.specs.Accepted.{IsAccepted};
-ghost use Rattle.engine.specs.Feed.{NoneIsAhead, ahead_in};
-ghost use Rattle.engine.specs.Lanes.{HaveTaken, channels_on, count_of};
+ghost use Rattle.due_model.specs.claims.Accepted.{IsAccepted};
+ghost use Rattle.engine.specs.claims.Feed.{NoneIsAhead, ahead_in};
+ghost use Rattle.engine.specs.claims.Lanes.{HaveTaken, channels_on, count_of};
 ghost use Rattle.engine.specs.Logs.{given_logs};
-ghost use Rattle.engine.specs.Run.{IsReadOf, IsRunOf, IsToldRunOf};
-ghost use Rattle.engine.specs.Unread.{HasStarted};
-ghost use Rattle.event_feed.specs.Feed.{no_line};
+ghost use Rattle.engine.specs.claims.Run.{IsReadOf, IsRunOf};
+ghost use Rattle.engine.specs.Run.{IsToldRunOf};
+ghost use Rattle.engine.specs.claims.Unread.{HasStarted};
+ghost use Rattle.event_feed.specs.claims.Feed.{no_line};
 
 use crate::intake::Intake;
 use crate::limited_feed::LimitedFeed;

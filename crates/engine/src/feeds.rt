@@ -4,14 +4,14 @@ ghost use Rattle.std.specs.Prelude.{◌≡◌, ◌≢◌, ◌≤◌, ℕ, All, [
 ghost use Rattle.std.specs.Prelude.{IsSome, slice_get, Some};
 ghost use Rattle.std.specs.List.{AllZip};
 ghost use Rattle.due_model.specs.declared.config.Config.{Config};
-ghost use Rattle.due_model.specs.Accepted.{IsAccepted};
-ghost use Rattle.due_model.specs.Proper.{IsProper};
+ghost use Rattle.due_model.specs.claims.Accepted.{IsAccepted};
+ghost use Rattle.due_model.specs.claims.Proper.{IsProper};
 ghost use Rattle.caller_feeds.specs.Feeds.{ArePairs, AreUnread, AreUnsent, IsSameEnd};
 ghost use Rattle.caller_feeds.specs.Taken.{AreOver, IsTaken};
 ghost use Rattle.engine.specs.Feeds.{AreCut, AreTaken, FeedsGo};
-ghost use Rattle.engine.specs.Lanes.{HaveTaken, channels_on, count_of};
-ghost use Rattle.engine.specs.Run.{IsRunOf};
-ghost use Rattle.engine.specs.Unread.{HasStarted};
+ghost use Rattle.engine.specs.claims.Lanes.{HaveTaken, channels_on, count_of};
+ghost use Rattle.engine.specs.claims.Run.{IsRunOf};
+ghost use Rattle.engine.specs.claims.Unread.{HasStarted};
 
 use crate::engine::Engine;
 use crate::logs::kept_logs;

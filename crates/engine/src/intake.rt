@@ -5,9 +5,12 @@ ghost use Rattle.std.specs.Prelude.{IfOk, IsNone, IsSome, None, OnErr, OnOk, Som
 ghost use Rattle.std.specs.Option.{option_to_list};
 ghost use Rattle.due_model.specs.declared.config.Config.{Config};
 ghost use Rattle.due_model.specs.declared.event.Event.{Event};
-ghost use Rattle.event_feed.specs.Feed.{Answer, Feed, feed_limit, feed_of};
-ghost use Rattle.engine.specs.Feed.{Follows, Goes, HasRead, HasTaken, IsLeft, NoneIsAhead, Offers};
-ghost use Rattle.engine.specs.Feed.{StaysOpen, accepts, ahead_in, goes_on};
+ghost use Rattle.event_feed.specs.claims.Feed.{Answer, Feed, feed_limit};
+ghost use Rattle.event_feed.specs.Feed.{feed_of};
+ghost use Rattle.engine.specs.claims.Feed.{NoneIsAhead};
+ghost use Rattle.engine.specs.Feed.{Follows, Goes, HasRead, HasTaken, IsLeft, Offers};
+ghost use Rattle.engine.specs.claims.Feed.{ahead_in};
+ghost use Rattle.engine.specs.Feed.{StaysOpen, accepts, goes_on};
 
 use delivery_worker::Gate;
 use due_model::config::Config;

@@ -2,7 +2,8 @@
 
 ghost use Rattle.std.specs.Prelude.{◌≡◌, ◌<◌, ◌≤◌, ◌∷◌, ◌++◌, ℕ, [], length, map, slice_get};
 ghost use Rattle.std.specs.Prelude.{vec_capacity, IfOk, OnOk, Some};
-ghost use Rattle.engine.specs.Lanes.{IsEndOf, LaneParts, channels_on};
+ghost use Rattle.engine.specs.claims.Lanes.{LaneParts, channels_on};
+ghost use Rattle.engine.specs.Lanes.{IsEndOf};
 
 use crate::post::Post;
 use crate::run_end::LaneEnd;

@@ -1,7 +1,7 @@
 //! The channels that a run is given.
 
 ghost use Rattle.std.specs.Prelude.{◌≡◌, ◌≤◌, ◌↔◌, ℕ, length, true, IsTrue};
-ghost use Rattle.engine.specs.Lanes.{count_of};
+ghost use Rattle.engine.specs.claims.Lanes.{count_of};
 
 use channel::Channel;
 use due_model::config::LaneId;

@@ -2,7 +2,8 @@
 
 ghost use Rattle.std.specs.Prelude.{◌≡◌, [], length, slice_get, true, false, IfOk};
 ghost use Rattle.std.specs.Option.{option_map};
-ghost use Rattle.engine.specs.Lanes.{IsEndOf, taken};
+ghost use Rattle.engine.specs.claims.Lanes.{taken};
+ghost use Rattle.engine.specs.Lanes.{IsEndOf};
 
 use delivery_worker::Served;
 use due_model::config::LaneId;
@@ -69,7 +70,8 @@ pub struct LaneEnd {
 
 impl Model for LaneEnd {
     ghost use Rattle.std.specs.Prelude.{◌≡◌};
-    ghost use Rattle.engine.specs.Lanes.{LaneParts, records_of};
+    ghost use Rattle.engine.specs.claims.Lanes.{LaneParts};
+    ghost use Rattle.engine.specs.Lanes.{records_of};
 
     ghost Value = { LaneParts };
 

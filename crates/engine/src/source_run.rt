@@ -5,10 +5,12 @@ ghost use Rattle.std.specs.Prelude.{vec_capacity, IfOk, Some};
 ghost use Rattle.due_model.specs.declared.config.Config.{Config};
 ghost use Rattle.due_model.specs.declared.event.Event.{Event};
 ghost use Rattle.due_model.specs.declared.zone.Zone.{Zone};
-ghost use Rattle.due_model.specs.Accepted.{IsAccepted};
-ghost use Rattle.engine.specs.Lanes.{HaveTaken, IsEndOf, LaneParts, channels_on, count_of};
+ghost use Rattle.due_model.specs.claims.Accepted.{IsAccepted};
+ghost use Rattle.engine.specs.claims.Lanes.{HaveTaken, LaneParts, channels_on, count_of};
+ghost use Rattle.engine.specs.Lanes.{IsEndOf};
 ghost use Rattle.engine.specs.Logs.{given_logs};
-ghost use Rattle.engine.specs.Run.{AreThreadsEnd, IsRunAfter, IsToldRunOf};
+ghost use Rattle.engine.specs.claims.Run.{IsRunAfter};
+ghost use Rattle.engine.specs.Run.{AreThreadsEnd, IsToldRunOf};
 ghost use Rattle.due_model.specs.declared.notice.Suppression.{Suppression};
 
 use crate::lanes::{channels_of, counts_of, ends_of};

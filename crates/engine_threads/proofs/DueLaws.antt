@@ -14,8 +14,8 @@ use Rattle.channel_queue.specs.Rule.{IsPickedOf}
 use Rattle.decider_thread.specs.Laws.{IsMade}
 use Rattle.decider_thread.specs.Puts.{as_items}
 use Rattle.delivery_worker.specs.Picked.{AllEnded}
-use Rattle.steps.specs.Lanes.{about}
-use Rattle.engine_threads.specs.Run.{IsNamed}
+use Rattle.steps.specs.claims.Lanes.{about}
+use Rattle.engine_threads.specs.claims.Run.{IsNamed}
 
 abbrev pub share_of : (n d : ℕ) → Share
 share_of n d = record { decider = d; deciders = n }

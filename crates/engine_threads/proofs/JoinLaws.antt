@@ -19,8 +19,9 @@ use Rattle.channel_queue.specs.declared.Seen.TheVariants.{Decider, Worker}
 use Rattle.channel_queue.specs.Passes.{IsDecider, IsWorker}
 use Rattle.channel_queue.specs.Rule.{IsPickedOf, decider_at, decider_seen, joined_of, joined_seen, picked_of, picked_seen, put_of, put_seen}
 use Rattle.delivery_worker.specs.declared.worker.Served.{Served}
-use Rattle.channel.specs.Channels.{Account, Offer}
-use Rattle.delivery_worker.specs.Channels.{HaveServed, records_in}
+use Rattle.channel.specs.claims.Channels.{Account, Offer}
+use Rattle.delivery_worker.specs.claims.Channels.{HaveServed}
+use Rattle.delivery_worker.specs.Channels.{records_in}
 use Rattle.delivery_worker.specs.Picked.{joined}
 use Rattle.undelivered.specs.Record.{Record}
 use Rattle.undelivered.specs.declared.Why.TheVariants as why

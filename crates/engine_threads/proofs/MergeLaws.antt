@@ -6,7 +6,8 @@ use Rattle.std.proofs.lemmas.List.Elements.{All-nil, All-cons}
 use Rattle.std.proofs.lemmas.List.Kept.{AllPairs-cons}
 use Rattle.due_model.specs.declared.notice.Suppression.{Suppression}
 use Rattle.engine_threads.specs.Merge.{HasBoth, merge_into, merged}
-use Rattle.decider_thread.specs.Order.{IsInOrder, place, stands_before}
+use Rattle.decider_thread.specs.claims.Order.{IsInOrder, place}
+use Rattle.decider_thread.specs.Order.{stands_before}
 
 pub none_second : (xs : List Suppression) → merged xs [] ≡ xs
 none_second [] = refl

@@ -10,23 +10,24 @@ use Rattle.due_model.specs.declared.event.Event.{Event}
 use Rattle.due_model.specs.declared.notice.Notice.{Notice}
 use Rattle.due_model.specs.declared.notice.Suppression.{Suppression}
 use Rattle.due_model.specs.declared.zone.Zone.{Zone}
-use Rattle.due_model.specs.Due.{due, sup}
+use Rattle.due_model.specs.claims.Due.{due, sup}
 use Rattle.due_model.specs.Items.{decider_of, notices}
 use Rattle.decider.specs.declared.share.Share.{Share}
-use Rattle.decider.specs.Decider.{gained, suppressed_gained}
+use Rattle.decider.specs.claims.Decider.{gained, suppressed_gained}
 use Rattle.channel_queue.specs.declared.LaneQueue.{LaneQueue}
 use Rattle.channel_queue.specs.Rule.{picked_of}
 use Rattle.decider_thread.specs.declared.ring.DeciderEnd.{DeciderEnd}
-use Rattle.decider_thread.specs.Decided.{IsOlder}
-use Rattle.decider_thread.specs.Laws.{MadeIsDue, MadeIsOwn, SuppressedIsInOrder, SuppressedIsNamed, SuppressedIsOwn, SuppressedIsSup, of_object}
+use Rattle.decider_thread.specs.claims.Decided.{IsOlder}
+use Rattle.decider_thread.specs.claims.Laws.{of_object}
+use Rattle.decider_thread.specs.Laws.{MadeIsDue, MadeIsOwn, SuppressedIsInOrder, SuppressedIsNamed, SuppressedIsOwn, SuppressedIsSup}
 use Rattle.decider_thread.specs.Made.{made_due, suppressed}
 use Rattle.delivery_worker.specs.declared.worker.Served.{Served}
 use Rattle.delivery_worker.specs.Picked.{AllEnded, joined}
 use Rattle.std.specs.List.{AllPairs}
 use Rattle.lemmas.proofs.Lists.{AllPairs-nil, AllPairs-tail, some_at}
-use Rattle.decider_thread.specs.Order.{IsInOrder, place}
-use Rattle.due_model.specs.Accepted.{IsAccepted}
-use Rattle.steps.specs.Lanes.{about}
+use Rattle.decider_thread.specs.claims.Order.{IsInOrder, place}
+use Rattle.due_model.specs.claims.Accepted.{IsAccepted}
+use Rattle.steps.specs.claims.Lanes.{about}
 use Rattle.undelivered.specs.Record.{Record}
 use Rattle.undelivered.specs.declared.Why.{Why}
 use Rattle.undelivered.specs.declared.Why.TheVariants.{NoMemory}
@@ -34,7 +35,8 @@ use Rattle.engine_threads.specs.Joins.{ArePicked, IsKept, IsMet}
 use Rattle.engine_threads.specs.Lanes.{HasCause, IsServed}
 use Rattle.engine_threads.specs.Logs.{AreInOrder, HasEach}
 use Rattle.engine_threads.specs.Told.{HasRun, HaveTold}
-use Rattle.engine_threads.specs.Run.{AreLaneEnds, IsLaneEnd, IsLogOf, IsNamed, IsRun}
+use Rattle.engine_threads.specs.claims.Run.{IsNamed}
+use Rattle.engine_threads.specs.Run.{AreLaneEnds, IsLaneEnd, IsLogOf, IsRun}
 use Rattle.engine_threads.proofs.DueLaws.{LaneRead, about_front, lane_front, lane_named, lane_whole, owner, prefix_then, share_of}
 use Rattle.engine_threads.proofs.JoinLaws.{neither_first, neither_second}
 use Rattle.engine_threads.proofs.LogLaws.{named_below}

@@ -20,7 +20,8 @@ use Rattle.decider_thread.specs.Made.{made_due, suppressed}
 use Rattle.decider_thread.specs.declared.Signal.{Signal}
 use Rattle.decider_thread.specs.declared.Signal.TheVariants.{Over}
 use Rattle.decider_thread.specs.declared.ring.DeciderEnd.{DeciderEnd}
-use Rattle.decider_thread.specs.Decided.{HasDecided, IsOlder, heard}
+use Rattle.decider_thread.specs.claims.Decided.{IsOlder}
+use Rattle.decider_thread.specs.Decided.{HasDecided, heard}
 use Rattle.decider_thread.specs.Puts.{as_items}
 
 -- all but what was joined to its pass is as it was

@@ -6,8 +6,9 @@ use Rattle.channel_queue.specs.declared.LaneQueue.{LaneQueue}
 use Rattle.channel_queue.specs.Passes.{IsWorker}
 use Rattle.channel_queue.specs.Rule.{picked_of}
 use Rattle.delivery_worker.specs.declared.worker.Served.{Served}
-use Rattle.channel.specs.Channels.{Account, Offer}
-use Rattle.delivery_worker.specs.Channels.{HaveServed, records_in}
+use Rattle.channel.specs.claims.Channels.{Account, Offer}
+use Rattle.delivery_worker.specs.claims.Channels.{HaveServed}
+use Rattle.delivery_worker.specs.Channels.{records_in}
 use Rattle.delivery_worker.specs.Picked.{AllEnded, joined}
 use Rattle.due_model.specs.declared.config.Config.{Config}
 use Rattle.undelivered.specs.Record.{Record}

@@ -1,3 +1,4 @@
+pub mod claims
 pub mod Given
 pub mod Joins
 pub mod Lanes

@@ -2,7 +2,7 @@
 use Rattle.std.specs.Prelude.{◌≡◌, ℕ, Bool, List, [], filter, slice_get, Some}
 use Rattle.due_model.specs.declared.notice.Suppression.{Suppression}
 use Rattle.decider_thread.specs.declared.ring.DeciderEnd.{DeciderEnd}
-use Rattle.decider_thread.specs.Order.{IsInOrder}
+use Rattle.decider_thread.specs.claims.Order.{IsInOrder}
 
 -- each stands by event, then object
 abbrev pub AreInOrder : List DeciderEnd → Type 0

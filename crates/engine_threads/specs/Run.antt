@@ -3,22 +3,18 @@ use Rattle.std.specs.Prelude.{◌≡◌, ◌≢◌, ℕ, ◌<◌, ◌++◌, All,
 use mathlib.Core.List.{IsPrefix}
 use Rattle.due_model.specs.declared.config.Config.{Config}
 use Rattle.due_model.specs.declared.event.Event.{Event}
-use Rattle.due_model.specs.declared.notice.Notice.{Notice}
 use Rattle.due_model.specs.declared.notice.Suppression.{Suppression}
 use Rattle.due_model.specs.declared.zone.Zone.{Zone}
-use Rattle.due_model.specs.Due.{due, sup}
-use Rattle.decider_thread.specs.Decided.{IsOlder}
-use Rattle.decider_thread.specs.Laws.{of_object}
+use Rattle.due_model.specs.claims.Due.{due, sup}
+use Rattle.decider_thread.specs.claims.Decided.{IsOlder}
+use Rattle.decider_thread.specs.claims.Laws.{of_object}
 use Rattle.delivery_worker.specs.declared.worker.Served.{Served}
 use Rattle.delivery_worker.specs.Picked.{joined}
-use Rattle.decider_thread.specs.Order.{IsInOrder}
-use Rattle.steps.specs.Lanes.{about}
+use Rattle.decider_thread.specs.claims.Order.{IsInOrder}
+use Rattle.steps.specs.claims.Lanes.{about}
 use Rattle.undelivered.specs.declared.Why.TheVariants as why
 use Rattle.engine_threads.specs.Lanes.{HasCause}
-
--- it is of an object of the configuration, and on lane l
-abbrev pub IsNamed : Config → (l : ℕ) → Notice → Type 0
-IsNamed c l n = (n.object.0 < length c.objects) × (n.lane.0 ≡ l)
+use Rattle.engine_threads.specs.claims.Run.{IsNamed}
 
 -- Lane l at the end, of these events, the newest first: of each object, what was taken and then what was given up is what is due,
 -- where memory ran out in no thread; where it didn't run out in the lane's own, what is due of the events that the object's decider

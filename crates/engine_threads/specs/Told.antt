@@ -5,7 +5,7 @@ use Rattle.due_model.specs.declared.config.Config.{Config}
 use Rattle.due_model.specs.declared.event.Event.{Event}
 use Rattle.due_model.specs.declared.notice.Suppression.{Suppression}
 use Rattle.due_model.specs.declared.zone.Zone.{Zone}
-use Rattle.decider_thread.specs.Laws.{of_object}
+use Rattle.decider_thread.specs.claims.Laws.{of_object}
 use Rattle.decider_thread.specs.Made.{suppressed}
 use Rattle.delivery_worker.specs.declared.worker.Served.{Served}
 use Rattle.engine_threads.specs.Run.{IsLogOf, IsRun}

@@ -2,7 +2,8 @@
 //! object; so does the log of all.
 
 ghost use Rattle.std.specs.Prelude.{◌≡◌, ◌+◌, ◌<◌, ◌^◌, IfOk, length};
-ghost use Rattle.decider_thread.specs.Order.{IsInOrder, stands_before};
+ghost use Rattle.decider_thread.specs.claims.Order.{IsInOrder};
+ghost use Rattle.decider_thread.specs.Order.{stands_before};
 ghost use Rattle.engine_threads.specs.Merge.{HasBoth, merged};
 
 use due_model::notice::Suppression;

@@ -1,7 +1,7 @@
 //! The logs of the deciders as one.
 
 ghost use Rattle.std.specs.Prelude.{IfOk};
-ghost use Rattle.decider_thread.specs.Order.{IsInOrder};
+ghost use Rattle.decider_thread.specs.claims.Order.{IsInOrder};
 ghost use Rattle.engine_threads.specs.Logs.{AreInOrder, HasEach};
 
 use crate::log_merge::merge;

@@ -5,7 +5,7 @@ ghost use Rattle.std.specs.Prelude.{true, length, reverse, slice_get, Some};
 ghost use Rattle.due_model.specs.declared.config.Config.{Config};
 ghost use Rattle.due_model.specs.declared.event.Event.{Event};
 ghost use Rattle.due_model.specs.declared.zone.Zone.{Zone};
-ghost use Rattle.due_model.specs.Accepted.{IsAccepted};
+ghost use Rattle.due_model.specs.claims.Accepted.{IsAccepted};
 ghost use Rattle.engine_threads.specs.Lanes.{HaveTaken};
 ghost use Rattle.engine_threads.specs.Run.{AreLaneEnds, IsLogOf, IsRun};
 ghost use Rattle.engine_threads.specs.Told.{HasRun, HaveLogged};

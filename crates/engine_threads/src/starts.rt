@@ -1,8 +1,8 @@
 //! The start of the threads.
 
 ghost use Rattle.std.specs.Prelude.{◌≡◌, ◌<◌, ◌≤◌, [], ℕ, IfSome, length, slice_get, Some};
-ghost use Rattle.due_model.specs.Accepted.{IsAccepted};
-ghost use Rattle.decider.specs.Share.{IsShare};
+ghost use Rattle.due_model.specs.claims.Accepted.{IsAccepted};
+ghost use Rattle.decider.specs.claims.Share.{IsShare};
 ghost use Rattle.channel_queue.specs.Passes.{IsWorker};
 ghost use Rattle.rtrb.specs.Ring.{received};
 ghost use Rattle.engine_threads.specs.Lanes.{HaveTaken, IsServed};

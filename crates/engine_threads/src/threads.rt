@@ -2,9 +2,9 @@
 
 ghost use Rattle.std.specs.Prelude.{◌≡◌, ◌||◌, ◌<◌, ◌≤◌, ℕ, List, [], IfErr, IfOk, IfSome, length, reverse};
 ghost use Rattle.std.specs.Prelude.{false, true, slice_get, vec_capacity, Some};
-ghost use Rattle.due_model.specs.Accepted.{IsAccepted};
+ghost use Rattle.due_model.specs.claims.Accepted.{IsAccepted};
 ghost use Rattle.rtrb.specs.Ring.{IsPair};
-ghost use Rattle.decider_thread.specs.Order.{IsInOrder};
+ghost use Rattle.decider_thread.specs.claims.Order.{IsInOrder};
 ghost use Rattle.engine_threads.specs.Lanes.{HaveTaken};
 ghost use Rattle.engine_threads.specs.Logs.{AreInOrder, HasEach};
 ghost use Rattle.engine_threads.specs.Run.{AreLaneEnds};

@@ -14,7 +14,7 @@ use Rattle.std.proofs.lemmas.Map.Keys.{IsStrictlyIncreasing-dedup}
 use Rattle.lemmas.proofs.Elements.{Contains-cases, Contains-filter, Contains-from_filter, Contains-here, Contains-later, Contains-none, Contains-range}
 use Rattle.lemmas.proofs.Lists.{AllPairs-head, AllPairs-tail, range_increases}
 use Rattle.due_model.specs.declared.config.ContactId.{ContactId}
-use Rattle.due_model.specs.Escalations.{has_contact}
+use Rattle.due_model.specs.claims.Escalations.{has_contact}
 use Rattle.escalation.specs.Named.{contact_ids}
 
 -- ---- rising numbers are determined by which they are

@@ -15,10 +15,10 @@ use Rattle.due_model.specs.declared.config.Escalation.{Escalation}
 use Rattle.due_model.specs.declared.config.Object.{Object}
 use Rattle.due_model.specs.declared.options.OptionLetter.{OptionLetter}
 use Rattle.due_model.specs.declared.zone.Zone.{Zone}
-use Rattle.due_model.specs.Accepted.{EscalationFits, IsAccepted, ObjectFits}
+use Rattle.due_model.specs.claims.Accepted.{EscalationFits, IsAccepted, ObjectFits}
 use Rattle.due_model.specs.ByObject.{places_of}
-use Rattle.due_model.specs.Limits.{max_number}
-use Rattle.due_model.specs.Escalations.{contacts_with, has_contact, interval_of, matches, matching, reaches}
+use Rattle.due_model.specs.claims.Limits.{max_number}
+use Rattle.due_model.specs.claims.Escalations.{contacts_with, has_contact, interval_of, matches, matching, reaches}
 use Rattle.escalation.specs.Matching.{applies, applying, least_of}
 use Rattle.escalation.specs.Named.{has_some, named_by}
 use Rattle.escalation.proofs.ByObjectLemmas.{own_at}

@@ -5,8 +5,8 @@ use Rattle.due_model.specs.declared.config.Config.{Config}
 use Rattle.due_model.specs.declared.config.Escalation.{Escalation}
 use Rattle.due_model.specs.declared.options.OptionLetter.{OptionLetter}
 use Rattle.due_model.specs.declared.zone.Zone.{Zone}
-use Rattle.due_model.specs.Periods.{in_period}
-use Rattle.due_model.specs.Rules.{has_letter}
+use Rattle.due_model.specs.claims.Periods.{in_period}
+use Rattle.due_model.specs.claims.Rules.{has_letter}
 
 -- whether an escalation applies to the n-th notification of a problem of its object, of this letter
 -- and at t

@@ -2,11 +2,11 @@
 
 ghost use Rattle.std.specs.Prelude.{◌≡◌, ◌<◌, ◌≤◌, ◌++◌, All, Some, length, slice_get};
 ghost use Rattle.std.specs.Prelude.{IfOk, OnErr, OnOk};
-ghost use Rattle.due_model.specs.Accepted.{IsAccepted};
-ghost use Rattle.due_model.specs.Escalations.{contacts_with, has_contact, reach};
-ghost use Rattle.due_model.specs.Limits.{last_moment};
+ghost use Rattle.due_model.specs.claims.Accepted.{IsAccepted};
+ghost use Rattle.due_model.specs.claims.Escalations.{contacts_with, has_contact, reach};
+ghost use Rattle.due_model.specs.claims.Limits.{last_moment};
 ghost use Rattle.due_model.specs.declared.config.Object.{Object};
-ghost use Rattle.time_period.specs.Days.{AreCompiled};
+ghost use Rattle.time_period.specs.claims.Days.{AreCompiled};
 ghost use Rattle.escalation.specs.Matching.{applying};
 ghost use Rattle.escalation.specs.Named.{contact_ids, has_some, named_by};
 

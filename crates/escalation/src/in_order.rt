@@ -4,7 +4,7 @@ ghost use Rattle.std.specs.Prelude.{◌≡◌, ℕ, ◌<◌, ◌++◌, ◌↔◌
 ghost use Rattle.std.specs.Prelude.{IsTrue};
 ghost use Rattle.std.specs.Prelude.{OnErr, OnOk};
 ghost use Rattle.std.specs.List.{range_with_len};
-ghost use Rattle.due_model.specs.Escalations.{has_contact};
+ghost use Rattle.due_model.specs.claims.Escalations.{has_contact};
 ghost use Rattle.escalation.specs.Named.{contact_ids};
 
 use due_model::config::ContactId;

@@ -3,11 +3,11 @@
 ghost use Rattle.std.specs.Prelude.{◌≡◌, ◌*◌, ◌<◌, ◌≤◌, All};
 ghost use Rattle.std.specs.Prelude.{Some, length, min, slice_get};
 ghost use Rattle.std.specs.Prelude.{option_map, unwrap_or};
-ghost use Rattle.due_model.specs.Accepted.{IsAccepted};
-ghost use Rattle.due_model.specs.Escalations.{gap};
-ghost use Rattle.due_model.specs.Limits.{last_moment, max_number};
+ghost use Rattle.due_model.specs.claims.Accepted.{IsAccepted};
+ghost use Rattle.due_model.specs.claims.Escalations.{gap};
+ghost use Rattle.due_model.specs.claims.Limits.{last_moment, max_number};
 ghost use Rattle.due_model.specs.declared.config.Object.{Object};
-ghost use Rattle.time_period.specs.Days.{AreCompiled};
+ghost use Rattle.time_period.specs.claims.Days.{AreCompiled};
 ghost use Rattle.escalation.specs.Matching.{applying, least_of};
 
 use crate::matching::applies;

@@ -2,8 +2,8 @@
 
 ghost use Rattle.std.specs.Prelude.{◌≡◌, ◌<◌, ◌≤◌};
 ghost use Rattle.due_model.specs.declared.config.Config.{Config};
-ghost use Rattle.due_model.specs.Limits.{last_moment};
-ghost use Rattle.time_period.specs.Days.{AreCompiled};
+ghost use Rattle.due_model.specs.claims.Limits.{last_moment};
+ghost use Rattle.time_period.specs.claims.Days.{AreCompiled};
 ghost use Rattle.escalation.specs.Matching.{applies};
 
 use due_model::config::Escalation;

@@ -7,10 +7,10 @@ use Rattle.std.proofs.lemmas.List.{take-append-drop}
 use Rattle.std.proofs.lemmas.Bool.{lt-ltb, le-ltb, lt-leb, le-leb, or_right, or_left, ne_eqb, eq-eqb, cond_both, true≢false}
 use Rattle.std.proofs.lemmas.List.{length-append, length-replicate, nil_from_length, replicate-append-replicate}
 use Rattle.std.proofs.lemmas.List.Elements.{All-nil}
-use Rattle.event_feed.specs.Fault.{is_ahead, is_line_fault, stop_fault}
+use Rattle.event_feed.specs.claims.Fault.{is_ahead, is_line_fault, stop_fault}
 use Rattle.std.proofs.lemmas.List.Splits.{slice_split_at, slice_split_none}
-use Rattle.due_model.specs.Proper.{IsProper}
-use Rattle.due_model.specs.Limits.{last_moment}
+use Rattle.due_model.specs.claims.Proper.{IsProper}
+use Rattle.due_model.specs.claims.Limits.{last_moment}
 use Rattle.due_model.specs.declared.config.Config.{Config}
 use Rattle.due_model.specs.declared.config.Object.{Object}
 use Rattle.due_model.specs.declared.event.Event.{Event}
@@ -20,11 +20,14 @@ use Rattle.text_lines.specs.declared.line_reader.Stop.{Stop}
 use Rattle.text_lines.specs.declared.line_reader.Stop.TheVariants.{InputEnded, CutLine, ReaderFailed, TooManyCalls, TooManyBytes, TooManyLines}
 use Rattle.text_lines.specs.declared.line_reader.NextLine.{NextLine}
 use Rattle.text_lines.specs.declared.line_reader.NextLine.TheVariants.{Line, Long, Over}
-use Rattle.event_feed.specs.Line.{line_reading}
-use Rattle.text_lines.specs.Lines.{is_newline, IsUnbroken, BeginsWithLine, pieces, Known, has_newline, has_line}
-use Rattle.text_lines.specs.CountedReader.{calls_after}
-use Rattle.text_lines.specs.LineReader.{Reading, to_come, line_limit, byte_limit, call_limit, CallsFit, ReadsFrom, ReadsLine, ReadsHeld}
-use Rattle.event_feed.specs.Feed.{Answer, AreGiven, AreGivenByWithin, HasLong, ends_feed, least_at_read, refusal, answers_within, feed_limit, held_back, is_stopped, text_reading_within, moment_after, AreFromLine, ComesNext, ComesLong, ComesWithin, ComesTo, GivesEventWithin, GivesFaultWithin, feed_of, lines_asked, raised}
+use Rattle.event_feed.specs.claims.Line.{line_reading}
+use Rattle.text_lines.specs.claims.Lines.{is_newline, pieces, Known, has_newline, has_line}
+use Rattle.text_lines.specs.Lines.{IsUnbroken, BeginsWithLine}
+use Rattle.text_lines.specs.claims.CountedReader.{calls_after}
+use Rattle.text_lines.specs.claims.LineReader.{byte_limit, call_limit}
+use Rattle.text_lines.specs.LineReader.{Reading, to_come, line_limit, CallsFit, ReadsFrom, ReadsLine, ReadsHeld}
+use Rattle.event_feed.specs.claims.Feed.{Answer, AreGiven, AreGivenByWithin, HasLong, ends_feed, least_at_read, refusal, answers_within, feed_limit, held_back, is_stopped, text_reading_within, moment_after, AreFromLine, ComesNext, ComesLong, ComesWithin, ComesTo, GivesEventWithin, GivesFaultWithin, lines_asked, raised}
+use Rattle.event_feed.specs.Feed.{feed_of}
 use Rattle.event_feed.specs.Feeder.{LineAnswers, GoesToLine, CountsLine, begun_lines}
 use Rattle.lemmas.proofs.Lists.{HasFirst, slice_split-first}
 use Rattle.event_feed.proofs.ProperLines.{line_reading-fault}

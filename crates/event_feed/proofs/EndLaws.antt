@@ -6,10 +6,10 @@ use Rattle.due_model.specs.declared.config.Config.{Config}
 use Rattle.due_model.specs.declared.event.Event.{Event}
 use Rattle.event_feed.specs.declared.fault.FeedFault.{FeedFault}
 use Rattle.event_feed.specs.declared.fault.FeedFault.TheVariants.{Read}
-use Rattle.event_feed.specs.Fault.{is_line_fault}
-use Rattle.event_feed.specs.Feed.{Answer, AreGiven, answers_within, ends_feed, held_back, is_stopped, moment_after, raised, text_reading_within}
+use Rattle.event_feed.specs.claims.Fault.{is_line_fault}
+use Rattle.event_feed.specs.claims.Feed.{Answer, AreGiven, answers_within, ends_feed, held_back, is_stopped, moment_after, raised, text_reading_within}
 use Rattle.event_feed.specs.Laws.{NothingFollowsTheEnd}
-use Rattle.event_feed.specs.Line.{line_reading}
+use Rattle.event_feed.specs.claims.Line.{line_reading}
 use Rattle.event_feed.proofs.ProperLines.{line_reading-fault}
 
 -- of these answers one that ends the feed is the last

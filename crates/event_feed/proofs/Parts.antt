@@ -11,8 +11,8 @@ use Rattle.std.proofs.lemmas.Int.Digits.{number_push}
 use Rattle.lemmas.proofs.Lists.{slice_split-first}
 use Rattle.due_model.specs.declared.event.EventKind.{EventKind}
 use Rattle.event_feed.specs.declared.fault.FeedFault.TheVariants.{BadState}
-use Rattle.event_feed.specs.Line.{fields, bare_reading, digits_number}
-use Rattle.due_model.specs.Limits.{last_moment}
+use Rattle.event_feed.specs.claims.Line.{fields, bare_reading, digits_number}
+use Rattle.due_model.specs.claims.Limits.{last_moment}
 
 -- where nothing passes, the list is the one part
 pub slice_split-whole : {X : Type 0} (p : X → Bool) (xs : List X) → position_or_len p xs ≡ length xs → slice_split p xs ≡ xs ∷ []

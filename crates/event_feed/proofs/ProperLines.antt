@@ -7,9 +7,9 @@ use Rattle.std.specs.Str.{bytes_eq, is_utf8}
 use Rattle.std.proofs.lemmas.Bool.{and_parts, cond_both, leb-true, ltb-true, false≢true}
 use Rattle.std.proofs.lemmas.Option.{cond_some, slice_get_cases, slice_get_within}
 use Rattle.std.proofs.lemmas.List.Quantifiers.{position-Some}
-use Rattle.due_model.specs.Proper.{KindIsProper, is_state_of}
-use Rattle.due_model.specs.Limits.{last_moment}
-use Rattle.due_model.specs.Objects.{object_id, is_called, is_named, object_named}
+use Rattle.due_model.specs.claims.Proper.{KindIsProper, is_state_of}
+use Rattle.due_model.specs.claims.Limits.{last_moment}
+use Rattle.due_model.specs.claims.Objects.{object_id, is_called, is_named, object_named}
 use Rattle.due_model.specs.declared.config.Config.{Config}
 use Rattle.due_model.specs.declared.config.Object.{Object}
 use Rattle.due_model.specs.declared.config.ObjectId.{ObjectId}
@@ -28,8 +28,8 @@ use Rattle.event_feed.specs.declared.line.Subject.{Subject}
 use Rattle.event_feed.specs.declared.line.Subject.TheVariants.{Host, Service}
 use Rattle.event_feed.specs.declared.line.Words.{Words}
 use Rattle.event_feed.specs.declared.line.Words.TheVariants.{States, Downtimes, Flaps, Acks, Switches}
-use Rattle.event_feed.specs.Fault.{is_line_fault}
-use Rattle.event_feed.specs.Line.{stamp_of, digits_number, stamp_digits, is_stamp_shaped, command_of, fields, command_named, host_state_said, service_state_said, downtime_said, flapping_said, ack_given, ack_said, told_ack_said, own_switch_said, said, said_more, all_said, are_so_many, said_reading, last_reading, object_reading, bare_reading, arguments_reading, command_reading, stamped, stamp_reading, line_reading}
+use Rattle.event_feed.specs.claims.Fault.{is_line_fault}
+use Rattle.event_feed.specs.claims.Line.{stamp_of, digits_number, stamp_digits, is_stamp_shaped, command_of, fields, command_named, host_state_said, service_state_said, downtime_said, flapping_said, ack_given, ack_said, told_ack_said, own_switch_said, said, said_more, all_said, are_so_many, said_reading, last_reading, object_reading, bare_reading, arguments_reading, command_reading, stamped, stamp_reading, line_reading}
 
 -- ---- the object
 

@@ -10,7 +10,7 @@ use Rattle.std.proofs.lemmas.List.Splits.{slice_split_first}
 use Rattle.std.proofs.lemmas.List.Sums.{prefix_len-le-length}
 use Rattle.std.proofs.lemmas.Slice.Eq.{bytes_eq-Decides}
 use Rattle.lemmas.proofs.Lists.{slice_split-first}
-use Rattle.due_model.specs.Objects.{object_named}
+use Rattle.due_model.specs.claims.Objects.{object_named}
 use Rattle.due_model.specs.declared.config.Object.{Object}
 use Rattle.due_model.specs.declared.config.ObjectId.{ObjectId}
 use Rattle.due_model.specs.declared.event.DowntimeChange.TheVariants.{Start, End, Cancelled}
@@ -23,7 +23,8 @@ use Rattle.event_feed.specs.declared.line.Subject.{Subject}
 use Rattle.event_feed.specs.declared.line.Subject.TheVariants.{Host, Service}
 use Rattle.event_feed.specs.declared.line.Words.{Words}
 use Rattle.event_feed.specs.declared.line.Words.TheVariants.{States, Downtimes, Flaps, Acks, Switches}
-use Rattle.event_feed.specs.Line.{ack_given, ack_said, all_said, fields, fields_after, said, said_reading, takes_more, told_ack_said, last_reading, unknown_fault}
+use Rattle.event_feed.specs.claims.Line.{ack_given, ack_said, all_said, fields, said, said_reading, takes_more, told_ack_said, last_reading}
+use Rattle.event_feed.specs.Line.{fields_after, unknown_fault}
 use Rattle.event_feed.proofs.Parts.{slice_split-whole}
 
 -- bytes are one field, or a first one and others

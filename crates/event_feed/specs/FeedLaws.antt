@@ -9,9 +9,10 @@ use Rattle.event_feed.specs.declared.fault.FeedFault.TheVariants.{Cut, Read}
 use Rattle.event_feed.specs.declared.fault.RefusedLine.{RefusedLine}
 use Rattle.text_lines.specs.declared.line_reader.Stop.{Stop}
 use Rattle.text_lines.specs.declared.line_reader.Stop.TheVariants.{InputEnded, CutLine, ReaderFailed, TooManyCalls, TooManyBytes, TooManyLines}
-use Rattle.event_feed.specs.Fault.{is_line_fault, stop_fault}
-use Rattle.event_feed.specs.Feed.{Answer, AnswersNext, AnswersNextWithin, AnswersNone, AnswersNoneWithin, AreGiven, AreGivenBy, AreGivenByWithin, ComesNext, FaultAnswersWithin, FaultComesToWithin, FaultFits, Feed, GivesEvent, GivesEventWithin, GivesFault, GivesFaultWithin, HasLong, PassesLines, answers_from, answers_from_within, ends_feed, least_at_read, no_line, refusal}
-use Rattle.text_lines.specs.Lines.{Known, pieces}
+use Rattle.event_feed.specs.claims.Fault.{is_line_fault, stop_fault}
+use Rattle.event_feed.specs.claims.Feed.{Answer, AnswersNextWithin, AnswersNoneWithin, AreGiven, AreGivenBy, AreGivenByWithin, ComesNext, FaultAnswersWithin, FaultComesToWithin, FaultFits, Feed, GivesEvent, GivesEventWithin, GivesFault, GivesFaultWithin, HasLong, answers_from_within, ends_feed, least_at_read, no_line, refusal}
+use Rattle.event_feed.specs.Feed.{AnswersNext, AnswersNone, PassesLines, answers_from}
+use Rattle.text_lines.specs.claims.Lines.{Known, pieces}
 
 pub known_same : (bytes : Option (List ℕ)) (P : List ℕ → List ℕ → Type 0)
     → ((xs : List ℕ) → P xs xs) → Known bytes bytes P

@@ -2,9 +2,9 @@
 use Rattle.std.specs.Prelude.{◌≡◌, Bool, ℕ, ◌+◌, ◌<◌, ◌≤◌, List, [], ◌∷◌, Err, Option, None, Some}
 use Rattle.due_model.specs.declared.config.Object.{Object}
 use Rattle.event_feed.specs.declared.fault.FeedFault.TheVariants.{LineTooLong, Cut, Read}
-use Rattle.event_feed.specs.Feed.{Answer, AreFromLine, ComesTo, answers_within, feed_limit, moment_after, text_reading_within}
+use Rattle.event_feed.specs.claims.Feed.{Answer, AreFromLine, ComesTo, answers_within, feed_limit, moment_after, text_reading_within}
 use Rattle.text_lines.specs.LineReader.{Reading, to_come}
-use Rattle.text_lines.specs.Lines.{Known, pieces}
+use Rattle.text_lines.specs.claims.Lines.{Known, pieces}
 use Rattle.text_lines.specs.declared.line_reader.NextLine.{NextLine}
 use Rattle.text_lines.specs.declared.line_reader.NextLine.TheVariants.{Line, Long, Over}
 use Rattle.text_lines.specs.declared.line_reader.Stop.{Stop}

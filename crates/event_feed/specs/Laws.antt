@@ -1,7 +1,7 @@
 -- A law of the answers of a feed, of any bytes.
 use Rattle.std.specs.Prelude.{◌≡◌, ℕ, Bool, true, List, [], ◌∷◌, ◌++◌}
 use Rattle.due_model.specs.declared.config.Config.{Config}
-use Rattle.event_feed.specs.Feed.{Answer, AreGiven, answers_within, ends_feed}
+use Rattle.event_feed.specs.claims.Feed.{Answer, AreGiven, answers_within, ends_feed}
 
 -- After Cut or Read nothing is given of a feed, whether its reading broke off or not.
 abbrev pub NothingFollowsTheEnd : Type 0

@@ -1,4 +1,4 @@
-pub mod Fault
+pub mod claims
 pub mod Line
 pub mod Feed
 pub mod Feeder

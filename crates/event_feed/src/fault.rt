@@ -1,7 +1,7 @@
 //! Why a line of the feed gives no event.
 
 ghost use Rattle.std.specs.Prelude.{◌≡◌, Some};
-ghost use Rattle.event_feed.specs.Fault.{fault_name, stop_fault};
+ghost use Rattle.event_feed.specs.claims.Fault.{fault_name, stop_fault};
 
 use std::fmt;
 use text_lines::Stop;

@@ -3,17 +3,19 @@
 ghost use Rattle.std.specs.Prelude.{◌≡◌, ◌≢◌, ◌+◌, ◌-◌, ◌*◌, ℕ, Bool};
 ghost use Rattle.std.specs.Prelude.{◌≤◌, ◌∷◌, [], false, true, IsSome};
 ghost use Rattle.std.specs.Prelude.{None, Some, Ok, Err, IfOk, IfErr, IfSome, IfNone, OnSome, IsTrue};
-ghost use Rattle.due_model.specs.Proper.{IsProper};
-ghost use Rattle.event_feed.specs.Fault.{is_ahead};
-ghost use Rattle.event_feed.specs.Feed.{AreGivenBy, ComesToEnd, GivesEvent, GivesFault, GivesNone};
-ghost use Rattle.event_feed.specs.Feed.{AreGivenByWithin, GivesEventWithin, GivesFaultWithin};
-ghost use Rattle.event_feed.specs.Feed.{GivesNoneWithin, IsFar, IsNear, held_back};
-ghost use Rattle.event_feed.specs.Feed.{feed_limit, feed_of, lines_asked, raised, refusal};
+ghost use Rattle.due_model.specs.claims.Proper.{IsProper};
+ghost use Rattle.event_feed.specs.claims.Fault.{is_ahead};
+ghost use Rattle.event_feed.specs.claims.Feed.{AreGivenBy, ComesToEnd, GivesEvent, GivesFault, GivesNone};
+ghost use Rattle.event_feed.specs.claims.Feed.{AreGivenByWithin, GivesEventWithin, GivesFaultWithin};
+ghost use Rattle.event_feed.specs.claims.Feed.{GivesNoneWithin, held_back};
+ghost use Rattle.event_feed.specs.Feed.{IsFar, IsNear};
+ghost use Rattle.event_feed.specs.claims.Feed.{feed_limit, lines_asked, raised, refusal};
+ghost use Rattle.event_feed.specs.Feed.{feed_of};
 ghost use Rattle.event_feed.specs.Feeder.{CountsLine, GoesToLine, begun_lines, stop_of};
-ghost use Rattle.event_feed.specs.Line.{line_reading};
-ghost use Rattle.text_lines.specs.CountedReader.{calls_after};
-ghost use Rattle.text_lines.specs.LineReader.{call_limit};
-ghost use Rattle.text_lines.specs.Lines.{has_line};
+ghost use Rattle.event_feed.specs.claims.Line.{line_reading};
+ghost use Rattle.text_lines.specs.claims.CountedReader.{calls_after};
+ghost use Rattle.text_lines.specs.claims.LineReader.{call_limit};
+ghost use Rattle.text_lines.specs.claims.Lines.{has_line};
 
 use crate::fault::{FeedFault, RefusedLine, stop_fault};
 use crate::horizon::{Horizon, OpenHorizon};
@@ -40,8 +42,9 @@ pub struct Feeder<R: Read> {
 
 impl<R: Read> Model for Feeder<R> {
     ghost use Rattle.std.specs.Prelude.{◌≤◌, ◌+◌, if◌then◌else◌, is_some};
-    ghost use Rattle.due_model.specs.Limits.{last_moment};
-    ghost use Rattle.event_feed.specs.Feed.{Feed, feed_limit, feed_of};
+    ghost use Rattle.due_model.specs.claims.Limits.{last_moment};
+    ghost use Rattle.event_feed.specs.claims.Feed.{Feed, feed_limit};
+    ghost use Rattle.event_feed.specs.Feed.{feed_of};
 
     ghost Value = { Feed };
 

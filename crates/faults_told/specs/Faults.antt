@@ -5,7 +5,7 @@ use Rattle.object_check.specs.declared.rows.Must.{Must}
 use Rattle.object_check.specs.declared.rows.Must.TheVariants.{Be, Name, HaveWholeLines, HaveDayLines}
 use Rattle.object_check.specs.declared.rows.Must.TheVariants as musts
 use Rattle.object_faults.specs.Columns.{fault_name}
-use Rattle.object_faults.specs.LoadFaults.{of_value}
+use Rattle.object_faults.specs.claims.LoadFaults.{of_value}
 use Rattle.object_faults.specs.declared.load_fault.BlockFault.{BlockFault}
 use Rattle.object_faults.specs.declared.load_fault.BlockFault.TheVariants.{MissingDirective, BadRange, DatedException, UnknownName}
 

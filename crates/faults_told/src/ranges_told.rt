@@ -1,7 +1,7 @@
 //! What is wrong with time ranges.
 
 ghost use Rattle.std.specs.Prelude.{◌≡◌, ◌⊎◌, false};
-ghost use Rattle.object_values.specs.Ranges.{are_ranges};
+ghost use Rattle.object_values.specs.claims.Ranges.{are_ranges};
 
 use crate::telling::RangeFault;
 use object_values::ranges::are_ranges;

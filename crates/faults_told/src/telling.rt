@@ -4,7 +4,7 @@ ghost use Rattle.std.specs.Prelude.{◌≡◌, ◌==◌};
 ghost use Rattle.faults_told.specs.Faults.{row_fault};
 ghost use Rattle.faults_told.specs.Words.{kind_word};
 ghost use Rattle.object_check.specs.declared.rows.Must.TheVariants.{Be};
-ghost use Rattle.object_inheritance.specs.Templates.{kind_number};
+ghost use Rattle.object_inheritance.specs.claims.Templates.{kind_number};
 
 use object_check::rows::Must;
 use object_faults::column::Check;

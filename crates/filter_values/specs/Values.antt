@@ -10,8 +10,8 @@ use Rattle.due_model.specs.declared.config.Rights.{Rights}
 use Rattle.due_model.specs.declared.notice.Filter.{Filter}
 use Rattle.due_model.specs.declared.notice.Filter.TheVariants.{Acknowledged, ContactDisabled, ContactNotTold, ContactOptions, ContactPeriod, Dependency, Disabled, Downtime, FirstDelay, Flapping, HostDown, Interval, NoProblem, Options, Period, Program}
 use Rattle.due_model.specs.declared.options.OptionLetters.{OptionLetters}
-use Rattle.due_model.specs.Receivers.{rights_for}
-use Rattle.notice_text.specs.Names.{filter_name}
+use Rattle.due_model.specs.claims.Receivers.{rights_for}
+use Rattle.notice_text.specs.claims.Names.{filter_name}
 
 -- how many filters of an object are tried: that which asks for the host of a service is one where it can fail
 abbrev pub filter_count : Choices → ℕ

@@ -2,7 +2,7 @@
 
 ghost use Rattle.std.specs.Prelude.{◌≡◌, ◌++◌, decimal, flat_map, is_some, OnOk};
 ghost use Rattle.std.specs.List.{range_with_len};
-ghost use Rattle.due_model.specs.Receivers.{rights_for};
+ghost use Rattle.due_model.specs.claims.Receivers.{rights_for};
 ghost use Rattle.filter_values.specs.Values.{contact_filter_text, contact_value, filter_at, filter_text};
 ghost use Rattle.filter_values.specs.Values.{daemons_filter_at, filter_count, own_filter_at, placed};
 ghost use Rattle.filter_values.specs.Values.{host_letters, letter_text, letters_text, other_letters, passed_at, passed_text, period_name, period_text, service_letters};

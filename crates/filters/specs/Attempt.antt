@@ -4,7 +4,7 @@ use Rattle.due_model.specs.declared.config.Contact.{Contact}
 use Rattle.due_model.specs.declared.config.Rights.{Rights}
 use Rattle.due_model.specs.declared.rules.Attempt as rules
 use Rattle.due_model.specs.declared.rules.Last.{Last}
-use Rattle.due_model.specs.Limits.{last_moment, max_number}
+use Rattle.due_model.specs.claims.Limits.{last_moment, max_number}
 use Rattle.filters.specs.declared.attempt.Attempt.{Attempt}
 
 -- the attempt that the definitions speak of

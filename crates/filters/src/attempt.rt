@@ -2,10 +2,10 @@
 
 ghost use Rattle.std.specs.Prelude.{◌≡◌, ◌≤◌, not};
 ghost use Rattle.due_model.specs.declared.config.Config.{Config};
-ghost use Rattle.due_model.specs.Limits.{last_moment};
-ghost use Rattle.due_model.specs.Periods.{in_period};
-ghost use Rattle.due_model.specs.Rules.{has_letter};
-ghost use Rattle.time_period.specs.Days.{AreCompiled};
+ghost use Rattle.due_model.specs.claims.Limits.{last_moment};
+ghost use Rattle.due_model.specs.claims.Periods.{in_period};
+ghost use Rattle.due_model.specs.claims.Rules.{has_letter};
+ghost use Rattle.time_period.specs.claims.Days.{AreCompiled};
 
 use due_model::config::PeriodId;
 use due_model::notice::Kind;

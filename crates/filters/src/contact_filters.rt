@@ -3,11 +3,11 @@
 ghost use Rattle.std.specs.Prelude.{◌≡◌, ◌<◌, ◌≤◌, not, length, slice_get, Some};
 ghost use Rattle.std.specs.Result.{result_err};
 ghost use Rattle.due_model.specs.declared.config.Contact.{Contact};
-ghost use Rattle.due_model.specs.Limits.{last_moment};
+ghost use Rattle.due_model.specs.claims.Limits.{last_moment};
 ghost use Rattle.due_model.specs.declared.config.Config.{Config};
-ghost use Rattle.due_model.specs.Rules.{contact_failing, first_failing, in_daemons_contact_order};
-ghost use Rattle.due_model.specs.Rules.{in_own_contact_order, is_untold, letter_of};
-ghost use Rattle.time_period.specs.Days.{AreCompiled};
+ghost use Rattle.due_model.specs.claims.Rules.{contact_failing, first_failing, in_daemons_contact_order};
+ghost use Rattle.due_model.specs.claims.Rules.{in_own_contact_order, is_untold, letter_of};
+ghost use Rattle.time_period.specs.claims.Days.{AreCompiled};
 ghost use Rattle.filters.specs.Attempt.{plain, rights_of};
 
 use crate::attempt::Attempt;

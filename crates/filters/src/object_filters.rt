@@ -4,11 +4,11 @@ ghost use Rattle.std.specs.Prelude.{◌≡◌, ◌+◌, ◌*◌, ◌≤◌, ◌=
 ghost use Rattle.std.specs.Prelude.{nat_lt, IfSome};
 ghost use Rattle.std.specs.Result.{result_err};
 ghost use Rattle.due_model.specs.declared.config.Config.{Config};
-ghost use Rattle.due_model.specs.Limits.{last_moment, max_number};
-ghost use Rattle.due_model.specs.Rules.{asks_options, failing_by, first_failing, has_letter, in_daemons_order};
-ghost use Rattle.due_model.specs.Rules.{in_own_order, is_too_soon, letter_of};
-ghost use Rattle.due_model.specs.Rules.{is_problem, is_recovery, is_told_in_downtime, is_of_problem};
-ghost use Rattle.time_period.specs.Days.{AreCompiled};
+ghost use Rattle.due_model.specs.claims.Limits.{last_moment, max_number};
+ghost use Rattle.due_model.specs.claims.Rules.{asks_options, failing_by, first_failing, has_letter, in_daemons_order};
+ghost use Rattle.due_model.specs.claims.Rules.{in_own_order, is_too_soon, letter_of};
+ghost use Rattle.due_model.specs.claims.Rules.{is_problem, is_recovery, is_told_in_downtime, is_of_problem};
+ghost use Rattle.time_period.specs.claims.Days.{AreCompiled};
 ghost use Rattle.filters.specs.Attempt.{IsLastInRange, plain};
 
 use crate::attempt::Attempt;

@@ -4,7 +4,7 @@ use Rattle.std.specs.Prelude.{ℤ}
 use Rattle.std.proofs.lemmas.Bool.{cases_lt}
 use Rattle.jiff_core.proofs.SignedLemmas.{signed_arith}
 use Rattle.jiff_core.specs.Calendar.{IsEpochDay}
-use Rattle.due_model.specs.Local.{Local, local}
+use Rattle.due_model.specs.claims.Local.{Local, local}
 use Rattle.due_model.specs.declared.zone.Zone.{Zone}
 use Rattle.given_times.specs.Given.{IsFirst}
 use Rattle.zone_times.specs.Clock.{GoesOn}

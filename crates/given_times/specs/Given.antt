@@ -2,7 +2,7 @@
 use Rattle.std.specs.Prelude.{◌≡◌, ℕ, ◌+◌, ◌*◌, ◌<◌, ◌^◌, ℤ, pos, List, Result, Ok, Err, ◌⊎◌}
 use Rattle.std.specs.Int.{int_div_euclid}
 use Rattle.std.specs.Str.Parse.{digits_value, IsNumeral, without_leading_plus}
-use Rattle.due_model.specs.Local.{Local, local}
+use Rattle.due_model.specs.claims.Local.{Local, local}
 use Rattle.due_model.specs.declared.zone.Zone.{Zone}
 use Rattle.jiff_core.specs.Calendar.{days_from_civil}
 use Rattle.jiff_core.specs.declared.error.Error.{Error}

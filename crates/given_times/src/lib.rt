@@ -4,7 +4,7 @@
 
 ghost use Rattle.std.specs.Prelude.{◌≡◌, ℕ, ◌<◌, ◌≤◌, ◌^◌, pos, IfNone, IfSome};
 ghost use Rattle.std.specs.Int.{int_div_euclid};
-ghost use Rattle.due_model.specs.Limits.{last_moment};
+ghost use Rattle.due_model.specs.claims.Limits.{last_moment};
 ghost use Rattle.given_times.specs.Given.{IsMinutes, IsMoment, IsSeconds, most_minutes};
 
 mod showing;

@@ -1,8 +1,8 @@
 //! The first moment at which a zone's clock shows a date and a time.
 
 ghost use Rattle.std.specs.Prelude.{◌≡◌, ℕ, ◌+◌, ◌-◌, ◌*◌, ◌<◌, ◌≤◌, ◌^◌, IfNone, IfSome};
-ghost use Rattle.due_model.specs.Limits.{last_moment};
-ghost use Rattle.due_model.specs.Local.{local};
+ghost use Rattle.due_model.specs.claims.Limits.{last_moment};
+ghost use Rattle.due_model.specs.claims.Local.{local};
 ghost use Rattle.given_times.specs.Given.{IsFirst, shown_by};
 ghost use Rattle.jiff_core.specs.Date.{epoch_day};
 ghost use Rattle.jiff_fmt.specs.Temporal.{date_parts, time_parts};

@@ -5,7 +5,8 @@ use Rattle.std.proofs.lemmas.Bool.{cases_lt, eq-eqb, eqb-true}
 use Rattle.std.proofs.lemmas.List.{append-nil, get_or-replicate, get_or-set_other, get_or-set_same, get_or_past, length-replicate, length-set, map-append}
 use Rattle.std.proofs.lemmas.List.Elements.{All-from_get_or, All-get_or, All-map, All-filter, All-weaker, All-contains, filter-append}
 use Rattle.graph.specs.declared.edges.Edge.{Edge}
-use Rattle.graph.specs.Edges.{Leads, ends_of, HasEdges, IsWithin, IsGraph}
+use Rattle.graph.specs.claims.Edges.{Leads}
+use Rattle.graph.specs.Edges.{ends_of, HasEdges, IsWithin, IsGraph}
 
 -- ---- what a list contains, one element at a time
 

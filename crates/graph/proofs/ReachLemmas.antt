@@ -11,8 +11,8 @@ use Rattle.std.proofs.lemmas.Bool.{eqb-true}
 use Rattle.std.proofs.lemmas.List.{length-replicate, append-nil, append_assoc, length-set, length-append, length-take-le, get_or-set_same, get_or-set_other, get_or_append_left, get_or_past, get_or-take, get_or_default, take_more, take_more_set}
 use Rattle.std.proofs.lemmas.List.Elements.{All-from_get_or, All-get_or, Contains-get_or, Contains-push, Contains-push_cases, Contains-append_left, Contains-append_right, Contains-append_cases}
 use Rattle.std.proofs.lemmas.List.Quantifiers.{all_pairs_push}
-use Rattle.graph.specs.Chains.{Chain, Reaches}
-use Rattle.graph.specs.Edges.{Leads}
+use Rattle.graph.specs.claims.Chains.{Chain, Reaches}
+use Rattle.graph.specs.claims.Edges.{Leads}
 use Rattle.graph.specs.Reach.{Found, IsReached, IsMarked, IsSearch, Gains, IsTurn}
 
 -- ---- marks

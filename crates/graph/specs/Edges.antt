@@ -1,10 +1,6 @@
 -- A graph is the list of each node's ends: the nodes that its edges lead to. A node is a place in that list.
-use Rattle.std.specs.Prelude.{◌≡◌, ℕ, ◌^◌, ◌<◌, ◌==◌, List, [], length, map, filter, All, Contains, slice_index_or}
+use Rattle.std.specs.Prelude.{◌≡◌, ℕ, ◌^◌, ◌<◌, ◌==◌, List, [], length, map, filter, All, slice_index_or}
 use Rattle.graph.specs.declared.edges.Edge.{Edge}
-
--- an edge leads from p to q
-abbrev pub Leads : List (List ℕ) → ℕ → ℕ → Type 0
-Leads graph p q = Contains (slice_index_or graph p []) q
 
 -- where the edges from p lead, in the edges' order
 abbrev pub ends_of : List Edge → ℕ → List ℕ

@@ -1,4 +1,4 @@
+pub mod claims
 pub mod Lists
-pub mod Chains
 pub mod Edges
 pub mod Reach

@@ -1,7 +1,7 @@
 -- What a search found, and how it is kept.
 use Rattle.std.specs.Prelude.{◌≡◌, ℕ, ◌^◌, ◌<◌, ◌≤◌, ◌≢◌, ◌↔◌, ◌⊎◌, ◌++◌, List, length, take, AllPairs, Contains, slice_index}
-use Rattle.graph.specs.Chains.{Reaches}
-use Rattle.graph.specs.Edges.{Leads}
+use Rattle.graph.specs.claims.Chains.{Reaches}
+use Rattle.graph.specs.claims.Edges.{Leads}
 
 -- what a search found last, in a graph of so many nodes
 pub record Found : Type 0 where

@@ -2,7 +2,8 @@
 
 ghost use Rattle.std.specs.Prelude.{◌≡◌, ℕ, ◌<◌, ◌↔◌, [], length, All, Contains};
 ghost use Rattle.std.specs.Prelude.{slice_index_or, IfOk};
-ghost use Rattle.graph.specs.Edges.{HasEdges, IsWithin, Leads};
+ghost use Rattle.graph.specs.claims.Edges.{Leads};
+ghost use Rattle.graph.specs.Edges.{HasEdges, IsWithin};
 
 use crate::lists::{Lists, ListsBuilder};
 use std::alloc::{AllocError, Global};

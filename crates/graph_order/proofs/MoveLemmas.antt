@@ -7,8 +7,8 @@ use Rattle.std.proofs.lemmas.List.{take-append-drop, length-append, length-take-
 use Rattle.graph_order.specs.declared.walk.Mark.{Mark}
 use Rattle.graph_order.specs.declared.walk.Mark.TheVariants.{Unseen, Live, Done}
 use Rattle.graph_order.specs.declared.walk.Walk.{Walk}
-use Rattle.graph.specs.Chains.{IsOnLoop, Reaches}
-use Rattle.graph.specs.Edges.{Leads}
+use Rattle.graph.specs.claims.Chains.{IsOnLoop, Reaches}
+use Rattle.graph.specs.claims.Edges.{Leads}
 use Rattle.graph_order.specs.Walk.{AtMost, Closes, Enters, Fits, Goes, IsLinked, IsOpen, IsTurned, Leaves, Merges, NoRoot, Passes, end_at, steps_of, steps_at, sum_below}
 use Rattle.graph_order.proofs.ListLemmas.{set_same, set_other}
 use Rattle.graph_order.proofs.WalkLemmas.{IsOpen-enter, IsTurned-enter, IsLinked-enter, IsDone-enter, IsBegun-enter, IsOpen-leave, IsTurned-leave, IsOpen-merge, IsLinked-merge, IsTurned-pass, IsLinked-pass, IsTold-pass}

@@ -9,8 +9,8 @@ use Rattle.std.proofs.lemmas.List.Sorted.{Contains-permutation, IsPermutation-re
 use Rattle.graph_order.specs.declared.walk.Mark.{Mark}
 use Rattle.graph_order.specs.declared.walk.Mark.TheVariants.{Unseen, Live, Done}
 use Rattle.graph_order.specs.declared.walk.Walk.{Walk}
-use Rattle.graph.specs.Chains.{HasNoLoop, IsOnLoop, Reaches}
-use Rattle.graph.specs.Edges.{Leads}
+use Rattle.graph.specs.claims.Chains.{HasNoLoop, IsOnLoop, Reaches}
+use Rattle.graph.specs.claims.Edges.{Leads}
 use Rattle.graph_order.specs.Loops.{HasNoLoopBelow, IsFirstOnLoop}
 use Rattle.graph_order.specs.Order.{HasLoop, IsOrder}
 use Rattle.graph_order.specs.Walk.{AtMost, Fits, Goes, IsOver, end_at}

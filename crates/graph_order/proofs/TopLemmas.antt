@@ -14,8 +14,8 @@ use Rattle.lemmas.proofs.Elements.{at-Contains}
 use Rattle.graph_order.specs.declared.walk.Mark.{Mark}
 use Rattle.graph_order.specs.declared.walk.Mark.TheVariants.{Unseen, Live, Done}
 use Rattle.graph_order.specs.declared.walk.Walk.{Walk}
-use Rattle.graph.specs.Chains.{Chain, IsOnLoop, Reaches}
-use Rattle.graph.specs.Edges.{Leads}
+use Rattle.graph.specs.claims.Chains.{Chain, IsOnLoop, Reaches}
+use Rattle.graph.specs.claims.Edges.{Leads}
 use Rattle.graph_order.specs.Walk.{AtMost, Closes, Enters, Fits, Goes, Leaves, Merges, Passes, end_at, least_of}
 use Rattle.graph_order.proofs.ListLemmas.{Contains-at}
 use Rattle.graph_order.proofs.WalkLemmas.{differ, same_place, Reaches-step}

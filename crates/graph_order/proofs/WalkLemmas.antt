@@ -9,8 +9,8 @@ use Rattle.std.proofs.lemmas.List.Quantifiers.{all_pairs_push}
 use Rattle.lemmas.proofs.Chains.{Reaches-join}
 use Rattle.graph_order.specs.declared.walk.Mark.{Mark}
 use Rattle.graph_order.specs.declared.walk.Mark.TheVariants.{Unseen, Live, Done}
-use Rattle.graph.specs.Chains.{IsOnLoop, Reaches}
-use Rattle.graph.specs.Edges.{Leads}
+use Rattle.graph.specs.claims.Chains.{IsOnLoop, Reaches}
+use Rattle.graph.specs.claims.Edges.{Leads}
 use Rattle.graph_order.specs.Walk.{AtMost, IsBegun, IsDone, IsLinked, IsOpen, IsTold, IsTurned, NoRoot, end_at}
 use Rattle.graph_order.proofs.ListLemmas.{set_same, set_other, one_at, at_left, at_end, at_push_cases, pairs_front}
 

@@ -1,7 +1,7 @@
 -- The first node that lies on a loop.
 use Rattle.std.specs.Prelude.{ℕ, ◌<◌, List}
-use Rattle.graph.specs.Chains.{IsOnLoop}
-use Rattle.graph.specs.Edges.{Leads}
+use Rattle.graph.specs.claims.Chains.{IsOnLoop}
+use Rattle.graph.specs.claims.Edges.{Leads}
 
 -- it lies on a loop, and no node before it does
 pub record IsFirstOnLoop (graph : List (List ℕ)) (p : ℕ) : Type 0 where

@@ -1,7 +1,7 @@
 -- An order of a graph's nodes in which every edge leads forward.
 use Rattle.std.specs.Prelude.{ℕ, ◌<◌, ◌≢◌, List, length, All, AllPairs, Contains, slice_index}
-use Rattle.graph.specs.Chains.{IsOnLoop}
-use Rattle.graph.specs.Edges.{Leads}
+use Rattle.graph.specs.claims.Chains.{IsOnLoop}
+use Rattle.graph.specs.claims.Edges.{Leads}
 
 -- each node once, and every edge leads from an earlier place to a later one
 pub record IsOrder (graph : List (List ℕ)) (order : List ℕ) : Type 0 where

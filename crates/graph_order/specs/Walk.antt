@@ -1,7 +1,7 @@
 -- A walk along every edge that is reached from the nodes below a number, depth first: the least node on a loop and, if there is none, an order.
 use Rattle.std.specs.Prelude.{◌≡◌, ℕ, zero, suc, ◌+◌, ◌-◌, ◌^◌, ◌<◌, ◌≤◌, ◌≢◌, ◌⊎◌, List, [], ◌∷◌, ◌++◌, length, take, drop, reverse, min, AllPairs, Contains, IfNone, Option, Some, None, slice_get, slice_index, slice_index_or, slice_set}
-use Rattle.graph.specs.Chains.{IsOnLoop, Reaches}
-use Rattle.graph.specs.Edges.{Leads}
+use Rattle.graph.specs.claims.Chains.{IsOnLoop, Reaches}
+use Rattle.graph.specs.claims.Edges.{Leads}
 use Rattle.graph_order.specs.Order.{IsOrder}
 use Rattle.graph_order.specs.declared.walk.Mark.{Mark}
 use Rattle.graph_order.specs.declared.walk.Mark.TheVariants.{Unseen, Live, Done}

@@ -1,8 +1,8 @@
 //! The first node that lies on a loop.
 
 ghost use Rattle.std.specs.Prelude.{◌<◌, IfNone, IfOk, IfSome};
-ghost use Rattle.graph.specs.Chains.{HasNoLoop};
-ghost use Rattle.graph.specs.Edges.{Leads};
+ghost use Rattle.graph.specs.claims.Chains.{HasNoLoop};
+ghost use Rattle.graph.specs.claims.Edges.{Leads};
 ghost use Rattle.graph_order.specs.Loops.{HasNoLoopBelow, IsFirstOnLoop};
 
 use crate::walk::Walk;

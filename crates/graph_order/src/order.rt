@@ -1,8 +1,8 @@
 //! An order of a graph's nodes in which every edge leads forward.
 
 ghost use Rattle.std.specs.Prelude.{IfNone, IfOk, IfSome};
-ghost use Rattle.graph.specs.Chains.{HasNoLoop};
-ghost use Rattle.graph.specs.Edges.{Leads};
+ghost use Rattle.graph.specs.claims.Chains.{HasNoLoop};
+ghost use Rattle.graph.specs.claims.Edges.{Leads};
 ghost use Rattle.graph_order.specs.Order.{HasLoop, IsOrder};
 
 use crate::walk::Walk;

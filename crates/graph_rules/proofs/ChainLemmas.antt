@@ -5,7 +5,7 @@ use Rattle.std.proofs.lemmas.List.Elements.{All-contains}
 use Rattle.std.proofs.lemmas.Option.{same_Some, slice_get-get_or}
 use Rattle.lemmas.proofs.Chains.{Chain-join}
 use Rattle.lemmas.proofs.Elements.{at-Contains}
-use Rattle.graph.specs.Chains.{Chain, IsOnLoop, Reaches}
+use Rattle.graph.specs.claims.Chains.{Chain, IsOnLoop, Reaches}
 use Rattle.graph.specs.Edges.{IsWithin}
 use Rattle.graph_rules.specs.declared.rules.Rules.{Rules}
 use Rattle.graph_rules.specs.Loops.{down, IsLink, up}

@@ -3,7 +3,7 @@ use Rattle.std.proofs.Common.{ℕ, ◌<◌, List, Option, None, Some, Result, Ok
 use Rattle.std.specs.Prelude.{Contains, IfNone, IfOk, IfSome, ◌↔◌}
 use Rattle.std.specs.declared.alloc.AllocError.{AllocError}
 use Rattle.std.proofs.lemmas.List.Elements.{All-contains}
-use Rattle.graph.specs.Edges.{Leads}
+use Rattle.graph.specs.claims.Edges.{Leads}
 use Rattle.graph_order.specs.Loops.{HasNoLoopBelow, IsFirstOnLoop}
 use Rattle.graph_rules.specs.declared.rules.Rules.{Rules}
 use Rattle.graph_rules.specs.Loops.{edges_in, IsLink}

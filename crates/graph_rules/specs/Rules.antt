@@ -1,7 +1,7 @@
 -- Rules over the nodes of a graph: by a rule the objects of some nodes depend on those of others.
 use Rattle.std.specs.Prelude.{◌≡◌, ℕ, ◌<◌, All, Contains, Some, slice_get}
 use Rattle.graph.specs.declared.edges.Edge.{Edge}
-use Rattle.graph.specs.Chains.{Reaches}
+use Rattle.graph.specs.claims.Chains.{Reaches}
 use Rattle.graph.specs.Edges.{IsWithin}
 use Rattle.graph_rules.specs.declared.rules.Rules.{Rules}
 

@@ -2,7 +2,7 @@
 
 ghost use Rattle.std.specs.Prelude.{◌≡◌, true};
 ghost use Rattle.std.specs.Io.KnownBytes.{Appends};
-ghost use Rattle.written.specs.Written.{WritesFront};
+ghost use Rattle.written.specs.claims.Written.{WritesFront};
 
 use channel_kinds::stream::Outlet;
 

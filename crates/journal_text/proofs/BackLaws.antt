@@ -18,16 +18,16 @@ use Rattle.due_model.specs.declared.notice.Kind.TheVariants as kind
 use Rattle.due_model.specs.declared.notice.Notice.{Notice}
 use Rattle.due_model.specs.declared.state.State.{State}
 use Rattle.due_model.specs.declared.state.State.TheVariants as state
-use Rattle.notice_text.specs.Names.{kind_name, state_name}
-use Rattle.notice_text.specs.Texts.{contact_text, lane_text}
+use Rattle.notice_text.specs.claims.Names.{kind_name, state_name}
+use Rattle.notice_text.specs.claims.Texts.{contact_text, lane_text}
 use Rattle.due_model.specs.declared.config.ObjectId.{ObjectId}
 use Rattle.due_model.specs.declared.config.ContactId.{ContactId}
-use Rattle.due_model.specs.Objects.{object_named}
+use Rattle.due_model.specs.claims.Objects.{object_named}
 use Rattle.journal_text.specs.declared.entry.Entry.{Entry}
 use Rattle.journal_text.specs.declared.entry.Entry.TheVariants.{Begun, GivenUp, Taken}
 use Rattle.journal_text.specs.declared.reading.News.{News}
 use Rattle.journal_text.specs.declared.reading.Subject.{Subject}
-use Rattle.due_model.specs.Limits.{line_limit}
+use Rattle.due_model.specs.claims.Limits.{line_limit}
 use Rattle.text_lines.specs.Lines.{IsUnbroken}
 use Rattle.journal_text.specs.Lines.{within}
 use Rattle.journal_text.specs.Cuts.{EachIsReadBack, FirstIsReadBack, IsReadBack, IsSpoken, IsWord}

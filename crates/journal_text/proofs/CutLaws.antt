@@ -11,7 +11,8 @@ use Rattle.std.proofs.lemmas.List.Splits.{slice_split_at, slice_split_first, sli
 use Rattle.journal_text.specs.declared.entry.Entry.{Entry}
 use Rattle.due_model.specs.declared.config.Config.{Config}
 use Rattle.due_model.specs.declared.config.LaneId.{LaneId}
-use Rattle.text_lines.specs.Lines.{IsUnbroken, pieces}
+use Rattle.text_lines.specs.claims.Lines.{pieces}
+use Rattle.text_lines.specs.Lines.{IsUnbroken}
 use Rattle.journal_text.specs.Entries.{body, first_line, first_said}
 use Rattle.journal_text.specs.Lines.{Told, after_first, after_line, put, read_from, text, told_by, whole_text, with_front, within}
 use Rattle.journal_text.specs.Told.{journal_said, line_said}

@@ -4,12 +4,14 @@ use Rattle.std.specs.Io.KnownBytes.{prepend_known}
 use Rattle.std.proofs.lemmas.Bool.{cond-true, cond-false, le-leb, lt-leb, true≢false}
 use Rattle.std.proofs.lemmas.List.Elements.{filter_map-append}
 use Rattle.std.proofs.lemmas.List.Splits.{slice_split_at, slice_split_none}
-use Rattle.due_model.specs.Limits.{line_limit}
+use Rattle.due_model.specs.claims.Limits.{line_limit}
 use Rattle.due_model.specs.declared.config.Config.{Config}
 use Rattle.due_model.specs.declared.config.LaneId.{LaneId}
 use Rattle.due_model.specs.declared.notice.Notice.{Notice}
-use Rattle.text_lines.specs.LineReader.{BeginsUnbroken, call_limit}
-use Rattle.text_lines.specs.Lines.{BeginsWithLine, IsUnbroken, Known, is_newline, pieces}
+use Rattle.text_lines.specs.claims.LineReader.{call_limit}
+use Rattle.text_lines.specs.LineReader.{BeginsUnbroken}
+use Rattle.text_lines.specs.claims.Lines.{Known, is_newline, pieces}
+use Rattle.text_lines.specs.Lines.{BeginsWithLine, IsUnbroken}
 use Rattle.journal_text.specs.declared.entry.Entry.{Entry}
 use Rattle.journal_text.specs.declared.journal.JournalFault.{JournalFault}
 use Rattle.journal_text.specs.declared.journal.JournalFault.TheVariants.{Line, NoMemory, Unreadable}

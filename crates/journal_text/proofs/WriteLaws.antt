@@ -3,8 +3,9 @@ use Rattle.std.proofs.Common.{◌≡◌, ℕ, ◌<◌, ◌≤◌, ◌⊎◌, inl
 use Rattle.std.specs.List.{position_or_len}
 use Rattle.std.proofs.lemmas.Bool.{cond-true, cond-false, le-leb, leb-true}
 use Rattle.std.proofs.lemmas.List.Sums.{fails_before_first, position_or_len_is}
-use Rattle.due_model.specs.Limits.{line_limit}
-use Rattle.text_lines.specs.Lines.{IsUnbroken, is_newline}
+use Rattle.due_model.specs.claims.Limits.{line_limit}
+use Rattle.text_lines.specs.claims.Lines.{is_newline}
+use Rattle.text_lines.specs.Lines.{IsUnbroken}
 use Rattle.journal_text.specs.Cuts.{IsReadBack}
 use Rattle.journal_text.specs.Lines.{within}
 

@@ -3,9 +3,9 @@ use Rattle.std.specs.Prelude.{◌≡◌, ℕ, ◌<◌, ◌≤◌, ◌^◌, ◌==
 use Rattle.due_model.specs.declared.config.Config.{Config}
 use Rattle.due_model.specs.declared.config.LaneId.{LaneId}
 use Rattle.due_model.specs.declared.notice.Notice.{Notice}
-use Rattle.due_model.specs.Objects.{object_named}
-use Rattle.due_model.specs.Limits.{line_limit}
-use Rattle.notice_text.specs.Texts.{contact_text, lane_text}
+use Rattle.due_model.specs.claims.Objects.{object_named}
+use Rattle.due_model.specs.claims.Limits.{line_limit}
+use Rattle.notice_text.specs.claims.Texts.{contact_text, lane_text}
 use Rattle.text_lines.specs.Lines.{IsUnbroken}
 use Rattle.journal_text.specs.Entries.{body, first_line, first_said, notice_of}
 use Rattle.journal_text.specs.Names.{contact_said, host_word, service_said, service_word}

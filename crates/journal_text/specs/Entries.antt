@@ -11,9 +11,9 @@ use Rattle.due_model.specs.declared.config.ObjectId.{ObjectId}
 use Rattle.due_model.specs.declared.notice.Kind.{Kind}
 use Rattle.due_model.specs.declared.notice.Notice.{Notice}
 use Rattle.due_model.specs.declared.state.State.{State}
-use Rattle.due_model.specs.Objects.{object_named}
-use Rattle.notice_text.specs.Names.{kind_name, state_name}
-use Rattle.notice_text.specs.Texts.{contact_text, lane_text}
+use Rattle.due_model.specs.claims.Objects.{object_named}
+use Rattle.notice_text.specs.claims.Names.{kind_name, state_name}
+use Rattle.notice_text.specs.claims.Texts.{contact_text, lane_text}
 use Rattle.journal_text.specs.declared.entry.Entry.{Entry}
 use Rattle.journal_text.specs.declared.entry.Entry.TheVariants.{Begun, GivenUp, Taken}
 use Rattle.journal_text.specs.declared.reading.News.{News}

@@ -1,7 +1,7 @@
 -- The lines of a journal, whatever the bytes of a line are, and what is read of them.
 use Rattle.std.specs.Prelude.{◌≡◌, ℕ, ◌+◌, List, [], ◌∷◌, ◌++◌, flat_map, length, nat_le, Option, None, Some, Result, Ok, Err, if◌then◌else◌}
-use Rattle.due_model.specs.Limits.{line_limit}
-use Rattle.text_lines.specs.Lines.{pieces}
+use Rattle.due_model.specs.claims.Limits.{line_limit}
+use Rattle.text_lines.specs.claims.Lines.{pieces}
 use Rattle.journal_text.specs.declared.entry.Entry.{Entry}
 
 -- ---- as they are written

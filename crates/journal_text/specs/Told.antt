@@ -3,8 +3,10 @@ use Rattle.std.specs.Prelude.{◌≡◌, ℕ, ◌+◌, ◌^◌, ◌<◌, ◌≤�
 use Rattle.due_model.specs.declared.config.Config.{Config}
 use Rattle.due_model.specs.declared.config.LaneId.{LaneId}
 use Rattle.due_model.specs.declared.notice.Notice.{Notice}
-use Rattle.text_lines.specs.LineReader.{BeginsUnbroken, call_limit, line_limit}
-use Rattle.text_lines.specs.Lines.{BeginsWithLine, IsUnbroken, pieces}
+use Rattle.text_lines.specs.claims.LineReader.{call_limit}
+use Rattle.text_lines.specs.LineReader.{BeginsUnbroken, line_limit}
+use Rattle.text_lines.specs.claims.Lines.{pieces}
+use Rattle.text_lines.specs.Lines.{BeginsWithLine, IsUnbroken}
 use Rattle.journal_text.specs.declared.entry.Entry.{Entry}
 use Rattle.journal_text.specs.declared.entry.Entry.TheVariants.{Begun, GivenUp, Taken}
 use Rattle.journal_text.specs.declared.journal.JournalFault.{JournalFault}

@@ -4,7 +4,7 @@ ghost use Rattle.std.specs.Prelude.{◌≡◌, ◌+◌, ◌^◌, ◌≤◌, ℕ,
 ghost use Rattle.journal_text.specs.Entries.{entry_said, first_said};
 ghost use Rattle.journal_text.specs.Told.{Gains, IsRead, IsTooMuch, Reads, ReadsEntries, Steps, journal_said};
 ghost use Rattle.text_lines.specs.LineReader.{to_come};
-ghost use Rattle.text_lines.specs.Lines.{Known};
+ghost use Rattle.text_lines.specs.claims.Lines.{Known};
 
 use crate::entry::Entry;
 use crate::reading::{entry_of, first_of};

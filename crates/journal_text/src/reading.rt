@@ -2,7 +2,7 @@
 
 ghost use Rattle.std.specs.Prelude.{◌≡◌, ◌∷◌, []};
 ghost use Rattle.std.specs.Option.{option_map};
-ghost use Rattle.due_model.specs.Objects.{object_named};
+ghost use Rattle.due_model.specs.claims.Objects.{object_named};
 ghost use Rattle.journal_text.specs.Names.{contact_named, contact_said, kind_said, number_from, number_said, service_said, state_said};
 ghost use Rattle.journal_text.specs.Entries.{at_end, entry_said, first_said, from_of, kind_at, news_at, notice_said};
 ghost use Rattle.journal_text.specs.Entries.{number_at, object_at, subject_at, word_at};

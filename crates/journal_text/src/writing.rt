@@ -1,10 +1,10 @@
 //! The lines of a journal.
 
 ghost use Rattle.std.specs.Prelude.{◌≡◌, ◌≢◌, ◌<◌, ◌≤◌, ◌++◌, ◌∷◌, [], decimal, length, false, true, IfNone, IfOk, IfSome, OnOk, Some};
-ghost use Rattle.due_model.specs.Limits.{line_limit};
+ghost use Rattle.due_model.specs.claims.Limits.{line_limit};
 ghost use Rattle.text_lines.specs.Lines.{IsUnbroken};
 ghost use Rattle.journal_text.specs.Cuts.{IsEntryBack, IsReadBack};
-ghost use Rattle.notice_text.specs.Texts.{own_name};
+ghost use Rattle.notice_text.specs.claims.Texts.{own_name};
 ghost use Rattle.journal_text.specs.Entries.{body, entry_said, field, first_line, first_said};
 ghost use Rattle.journal_text.specs.Entries.{news_fields, notice_fields, subject_fields};
 ghost use Rattle.journal_text.specs.Lines.{within};

@@ -4,7 +4,8 @@ use Rattle.std.specs.Prelude.{All, Contains}
 use Rattle.std.proofs.lemmas.Bool.{true≢false, cond-true, cond-false}
 use Rattle.std.proofs.lemmas.List.Elements.{All-append, All-cons, All-head, All-nil, All-tail, filter-append}
 use Rattle.due_model.specs.declared.notice.Notice.{Notice}
-use Rattle.channel.specs.Channels.{Account, Offer, WasOffered, offer_of, receipt_of}
+use Rattle.channel.specs.claims.Channels.{Account, Offer, receipt_of}
+use Rattle.channel.specs.Channels.{WasOffered, offer_of}
 use Rattle.channel.specs.Letter.{again_of}
 use Rattle.channel.specs.declared.letter.Letter.{Letter}
 use Rattle.journal_text.specs.declared.entry.Entry.{Entry}

@@ -1,7 +1,8 @@
 -- What a channel with a journal hands on of what it is offered, and what it writes down.
 use Rattle.std.specs.Prelude.{◌≡◌, ℕ, ◌≤◌, ◌⊎◌, Bool, true, false, List, [], ◌∷◌, ◌++◌, All, Contains, Option, None, Some, flat_map, length, map, if◌then◌else◌}
 use Rattle.due_model.specs.declared.notice.Notice.{Notice}
-use Rattle.channel.specs.Channels.{Account, Offer, WasOffered}
+use Rattle.channel.specs.claims.Channels.{Account, Offer}
+use Rattle.channel.specs.Channels.{WasOffered}
 use Rattle.channel.specs.Letter.{again_of}
 use Rattle.journal_text.specs.declared.entry.Entry.{Entry}
 use Rattle.journal_text.specs.declared.entry.Entry.TheVariants.{Begun, GivenUp, Taken}

@@ -1,6 +1,7 @@
 -- What a channel with a journal is to its callers.
 use Rattle.std.specs.Prelude.{◌≡◌, ℕ, Bool, List}
-use Rattle.channel.specs.Channels.{Account, Offer, WasOffered}
+use Rattle.channel.specs.claims.Channels.{Account, Offer}
+use Rattle.channel.specs.Channels.{WasOffered}
 use Rattle.channel.specs.Record.{Record}
 use Rattle.journal_text.specs.declared.entry.Entry.{Entry}
 use Rattle.journaled.specs.Claims.{Past}

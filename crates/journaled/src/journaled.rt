@@ -3,7 +3,8 @@
 ghost use Rattle.std.specs.Prelude.{◌≡◌, ◌↔◌, ◌+◌, ◌<◌, ◌≤◌, ◌⊎◌, ◌++◌, [], ◌∷◌, length, is_ok};
 ghost use Rattle.std.specs.Prelude.{Contains, IfNone, IfOk, IfSome, IsErrOf, OnErr, OnOk, true, false};
 ghost use Rattle.std.specs.Arc.{arc_value};
-ghost use Rattle.channel.specs.Channels.{IsCounted, offer_of, receipt_of};
+ghost use Rattle.channel.specs.claims.Channels.{receipt_of};
+ghost use Rattle.channel.specs.Channels.{IsCounted, offer_of};
 ghost use Rattle.channel.specs.Letter.{again_of};
 ghost use Rattle.journal_text.specs.declared.entry.Entry.TheVariants as entry;
 ghost use Rattle.journaled.specs.Claims.{IsHeld, is_settled};

@@ -2,7 +2,7 @@
 
 ghost use Rattle.std.specs.Prelude.{◌≡◌, ◌≤◌, length, take, IfOk, OnOk};
 ghost use Rattle.json_report.specs.Lines.{after_bytes, bytes_text, start};
-ghost use Rattle.written.specs.Written.{Writes};
+ghost use Rattle.written.specs.claims.Written.{Writes};
 
 use crate::line::Line;
 use due_model::zone::Zone;

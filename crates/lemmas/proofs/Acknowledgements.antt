@@ -9,9 +9,10 @@ use Rattle.due_model.specs.declared.event.EventKind.{EventKind}
 use Rattle.due_model.specs.declared.event.EventKind.TheVariants.{Ack, AckRemoved, OwnSwitch, Clock, Downtime, Flapping, Hard, Program}
 use Rattle.due_model.specs.declared.state.State.{State}
 use Rattle.due_model.specs.declared.state.State.TheVariants as state
-use Rattle.due_model.specs.Acknowledgements.{ack_after, acked, acknowledgement, acknowledges, ends_ack, last_ack, outlasts, since_ack}
-use Rattle.due_model.specs.Readings.{hard, hard_after, is_ok_state, is_problem_state}
-use Rattle.due_model.specs.Rules.{same_state, state_number}
+use Rattle.due_model.specs.claims.Acknowledgements.{acked, acknowledgement, acknowledges, ends_ack, last_ack, outlasts, since_ack}
+use Rattle.due_model.specs.Acknowledgements.{ack_after}
+use Rattle.due_model.specs.claims.Readings.{hard, hard_after, is_ok_state, is_problem_state}
+use Rattle.due_model.specs.claims.Rules.{same_state, state_number}
 
 -- ---- states
 

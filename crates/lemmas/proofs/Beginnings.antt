@@ -2,11 +2,12 @@
 use Rattle.std.proofs.Common.{ℕ, ◌≤◌, max, Bool, true, false, List, [], ◌∷◌, if◌then◌else◌, arith, All}
 use Rattle.std.proofs.lemmas.List.Elements.{All-head, All-tail}
 use Rattle.due_model.specs.declared.event.Event.{Event}
-use Rattle.due_model.specs.Changes.{delayed, delays}
-use Rattle.due_model.specs.Readings.{moment, begins, began}
+use Rattle.due_model.specs.claims.Changes.{delayed, delays}
+use Rattle.due_model.specs.claims.Readings.{moment, begins}
+use Rattle.due_model.specs.Readings.{began}
 use Rattle.due_model.specs.declared.config.Config.{Config}
-use Rattle.due_model.specs.Proper.{IsProper}
-use Rattle.due_model.specs.Limits.{last_moment}
+use Rattle.due_model.specs.claims.Proper.{IsProper}
+use Rattle.due_model.specs.claims.Limits.{last_moment}
 
 began-step : (m : ℕ) (b : Bool) (stamp old : ℕ) → old ≤ m → (if b then max m stamp else old) ≤ max m stamp
 began-step m true stamp old h = omega arith

@@ -1,6 +1,6 @@
 -- Chains of steps, and what is reached by them.
 use Rattle.std.proofs.Common.{arith, subst, suc, sym, zero, ℕ, ◌+◌, ◌≡◌}
-use Rattle.graph.specs.Chains.{Chain, Reaches}
+use Rattle.graph.specs.claims.Chains.{Chain, Reaches}
 
 pub Chain-join : (R : ℕ → ℕ → Type 0) (a b p q r : ℕ) → Chain R a p q → Chain R b q r → Chain R (a + b) p r
 Chain-join R zero b p q r same chain = let none : 0 + b ≡ b = omega arith in rw none (subst (λ (x : ℕ). Chain R b x r) (sym same) chain)

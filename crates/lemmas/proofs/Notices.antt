@@ -14,13 +14,13 @@ use Rattle.due_model.specs.declared.notice.Kind.TheVariants as kind
 use Rattle.due_model.specs.declared.notice.Notice.{Notice}
 use Rattle.due_model.specs.declared.state.State.{State}
 use Rattle.due_model.specs.declared.zone.Zone.{Zone}
-use Rattle.due_model.specs.Due.{uses_lane, notice_to}
-use Rattle.due_model.specs.Receivers.{others, receivers, rights_for}
-use Rattle.due_model.specs.Readings.{is_problem_state}
+use Rattle.due_model.specs.claims.Due.{uses_lane, notice_to}
+use Rattle.due_model.specs.claims.Receivers.{others, receivers, rights_for}
+use Rattle.due_model.specs.claims.Readings.{is_problem_state}
 use Rattle.due_model.specs.declared.options.OptionLetters.{OptionLetters}
-use Rattle.due_model.specs.Escalations.{contacts_with, has_contact, matching, reach, reaches}
+use Rattle.due_model.specs.claims.Escalations.{contacts_with, has_contact, matching, reach, reaches}
 use Rattle.due_model.specs.declared.rules.Attempt.{Attempt}
-use Rattle.due_model.specs.Rules.{contact_failing, letter_of, state_letter}
+use Rattle.due_model.specs.claims.Rules.{contact_failing, letter_of, state_letter}
 use Rattle.lemmas.proofs.Lists.{All-flat_map, range_increases}
 
 -- the receivers stand in number order, each once

@@ -8,7 +8,7 @@ use Rattle.due_model.specs.declared.config.ContactId.{ContactId}
 use Rattle.due_model.specs.declared.config.ObjectId.{ObjectId}
 use Rattle.messages.specs.declared.entries.Entry.TheVariants.{Sent, Withheld}
 use Rattle.command_output.specs.LineHead.{entry_letter}
-use Rattle.notice_text.specs.Texts.{contact_text, object_text}
+use Rattle.notice_text.specs.claims.Texts.{contact_text, object_text}
 use Rattle.line_forms.specs.declared.report_line.ReportLine.{ReportLine}
 use Rattle.line_forms.specs.declared.report_line.ReportLine.TheVariants.{Decided, Refused}
 use Rattle.line_forms.specs.declared.picks.Picks.{Picks}

@@ -1,8 +1,8 @@
 -- A line of a report as `replay` writes it.
 use Rattle.std.specs.Prelude.{ℕ, List}
 use Rattle.due_model.specs.declared.config.Config.{Config}
-use Rattle.command_output.specs.OutputLine.{entry_text}
-use Rattle.command_output.specs.ReportLine.{refused_line}
+use Rattle.command_output.specs.claims.OutputLine.{entry_text}
+use Rattle.command_output.specs.claims.ReportLine.{refused_line}
 use Rattle.line_forms.specs.declared.report_line.ReportLine.{ReportLine}
 use Rattle.line_forms.specs.declared.report_line.ReportLine.TheVariants.{Decided, Refused}
 

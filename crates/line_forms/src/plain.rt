@@ -1,11 +1,11 @@
 //! A line of a report as `replay` writes it.
 
 ghost use Rattle.std.specs.Prelude.{◌≡◌, ◌++◌, decimal, OnOk};
-ghost use Rattle.command_output.specs.Fields.{field};
-ghost use Rattle.command_output.specs.ReportLine.{head_fields, notice_line, refused_contact_line};
-ghost use Rattle.command_output.specs.ReportLine.{refused_line, stopped_line, suppression_line_of};
+ghost use Rattle.command_output.specs.claims.Fields.{field};
+ghost use Rattle.command_output.specs.claims.ReportLine.{head_fields, notice_line, refused_contact_line};
+ghost use Rattle.command_output.specs.claims.ReportLine.{refused_line, stopped_line, suppression_line_of};
 ghost use Rattle.line_forms.specs.Plain.{plain_text};
-ghost use Rattle.notice_text.specs.Texts.{number_text, object_text};
+ghost use Rattle.notice_text.specs.claims.Texts.{number_text, object_text};
 
 use crate::report_line::ReportLine;
 use due_model::config::{Config, ContactId, ObjectId};
@@ -66,7 +66,7 @@ fn push_object_field(
 }
 
 /// Adds the head of a line.
-#[tactic(auto, unfolding(command_output::specs::ReportLine::head_fields))]
+#[tactic(auto, unfolding(command_output::specs::claims::ReportLine::head_fields))]
 fn push_head(text: &mut Vec<u8>, config: &Config, head: Head) -> Result<(), AllocError>
     ensures { OnOk result (text.new.items ≡ text.old.items
         ++ head_fields config.now head.event head.moment head.object.0 head.kind head.state) }

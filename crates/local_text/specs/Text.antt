@@ -1,6 +1,6 @@
 -- The text of a moment, as a zone's clock and calendar show it.
 use Rattle.std.specs.Prelude.{ℕ, ◌+◌, ◌/◌, ◌%◌, ◌^◌, ◌==◌, nat_lt, ℤ, pos, negsuc, ◌+ℤ◌, ◌-ℤ◌, ◌*ℤ◌, unsigned_abs, List, [], ◌∷◌, ◌++◌, codes, decimal, if◌then◌else◌}
-use Rattle.due_model.specs.Local.{local}
+use Rattle.due_model.specs.claims.Local.{local}
 use Rattle.due_model.specs.declared.zone.Zone.{Zone}
 use Rattle.local_text.specs.Calendar.{CivilDate, date_of}
 

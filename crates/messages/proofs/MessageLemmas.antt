@@ -22,11 +22,11 @@ use Rattle.due_model.specs.declared.options.OptionLetter.TheVariants as letter
 use Rattle.due_model.specs.declared.state.State.{State}
 use Rattle.due_model.specs.declared.rules.Attempt.{Attempt}
 use Rattle.due_model.specs.declared.zone.Zone.{Zone}
-use Rattle.due_model.specs.Due.{uses_lane}
-use Rattle.due_model.specs.Receivers.{others, passes, receivers, rights_for}
-use Rattle.due_model.specs.Escalations.{contacts_with, has_contact, matching, reach, reaches}
-use Rattle.due_model.specs.Readings.{is_problem_state}
-use Rattle.due_model.specs.Rules.{contact_failing, state_letter}
+use Rattle.due_model.specs.claims.Due.{uses_lane}
+use Rattle.due_model.specs.claims.Receivers.{others, passes, receivers, rights_for}
+use Rattle.due_model.specs.claims.Escalations.{contacts_with, has_contact, matching, reach, reaches}
+use Rattle.due_model.specs.claims.Readings.{is_problem_state}
+use Rattle.due_model.specs.claims.Rules.{contact_failing, state_letter}
 use Rattle.escalation.specs.Named.{contact_ids}
 use Rattle.filters.specs.Attempt.{plain, rights_of}
 use Rattle.lemmas.proofs.Lists.{any_alike, slice_get_read}
@@ -34,7 +34,8 @@ use Rattle.lemmas.proofs.Numbers.{flat_alike, flat_nothing}
 use Rattle.messages.specs.declared.entries.Entry.{Entry}
 use Rattle.messages.specs.declared.entries.Entry.TheVariants.{Sent, Withheld}
 use Rattle.messages.specs.declared.message.Message.{Message}
-use Rattle.messages.specs.Entries.{HasMore, contact_entries, outcome_entries}
+use Rattle.messages.specs.claims.Entries.{contact_entries, outcome_entries}
+use Rattle.messages.specs.Entries.{HasMore}
 use Rattle.messages.specs.Message.{entries_unless, lane_entries, message_entries, message_passes, outcome_of, suppression_for}
 use Rattle.outcomes.specs.Outcome.{heard_of}
 

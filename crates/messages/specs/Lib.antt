@@ -1,2 +1,3 @@
+pub mod claims
 pub mod Entries
 pub mod Message

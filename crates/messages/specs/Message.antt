@@ -11,16 +11,16 @@ use Rattle.due_model.specs.declared.notice.Reach.{Reach}
 use Rattle.due_model.specs.declared.notice.Outcome.{Outcome}
 use Rattle.due_model.specs.declared.notice.Outcome.TheVariants as outcome
 use Rattle.due_model.specs.declared.notice.Suppression.{Suppression}
-use Rattle.due_model.specs.Accepted.{IsAccepted}
-use Rattle.due_model.specs.Due.{uses_lane}
-use Rattle.due_model.specs.Limits.{last_moment}
-use Rattle.due_model.specs.Rules.{contact_failing, letter_of}
+use Rattle.due_model.specs.claims.Accepted.{IsAccepted}
+use Rattle.due_model.specs.claims.Due.{uses_lane}
+use Rattle.due_model.specs.claims.Limits.{last_moment}
+use Rattle.due_model.specs.claims.Rules.{contact_failing, letter_of}
 use Rattle.filters.specs.Attempt.{plain, rights_of}
 use Rattle.messages.specs.declared.entries.Entry.{Entry}
 use Rattle.messages.specs.declared.entries.Entry.TheVariants.{Sent, Withheld}
 use Rattle.messages.specs.declared.message.Message.{Message}
 use Rattle.outcomes.specs.declared.rules.Rules.{Rules}
-use Rattle.time_period.specs.Days.{AreCompiled}
+use Rattle.time_period.specs.claims.Days.{AreCompiled}
 
 -- how far it reaches, if it counts
 abbrev pub reach_of : Message → Reach

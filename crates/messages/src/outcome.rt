@@ -5,8 +5,9 @@ ghost use Rattle.std.specs.Prelude.{flat_map, length, slice_get, true, IfOk, OnE
 ghost use Rattle.std.specs.List.{list_any};
 ghost use Rattle.due_model.specs.declared.config.Object.{Object};
 ghost use Rattle.due_model.specs.declared.notice.Outcome.TheVariants.{Sent};
-ghost use Rattle.due_model.specs.Limits.{last_moment};
-ghost use Rattle.messages.specs.Entries.{HasMore, outcome_entries};
+ghost use Rattle.due_model.specs.claims.Limits.{last_moment};
+ghost use Rattle.messages.specs.claims.Entries.{outcome_entries};
+ghost use Rattle.messages.specs.Entries.{HasMore};
 ghost use Rattle.messages.specs.Message.{IsMessage, IsReadable, message_entries, message_passes};
 ghost use Rattle.messages.specs.Message.{outcome_of};
 ghost use Rattle.outcomes.specs.Outcome.{IsInRange, heard_of};

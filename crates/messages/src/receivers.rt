@@ -2,9 +2,9 @@
 
 ghost use Rattle.std.specs.Prelude.{◌≡◌, ◌++◌, ◌&&◌, slice_get, OnOk, Some};
 ghost use Rattle.due_model.specs.declared.config.Object.{Object};
-ghost use Rattle.due_model.specs.Readings.{is_problem_state};
-ghost use Rattle.due_model.specs.Receivers.{others, receivers};
-ghost use Rattle.due_model.specs.Escalations.{reach};
+ghost use Rattle.due_model.specs.claims.Readings.{is_problem_state};
+ghost use Rattle.due_model.specs.claims.Receivers.{others, receivers};
+ghost use Rattle.due_model.specs.claims.Escalations.{reach};
 ghost use Rattle.escalation.specs.Named.{contact_ids};
 ghost use Rattle.filters.specs.Attempt.{plain};
 ghost use Rattle.messages.specs.Message.{IsMessage};

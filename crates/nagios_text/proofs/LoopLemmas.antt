@@ -3,9 +3,9 @@ use Rattle.std.proofs.Common.{◌≡◌, ℕ, ◌+◌, ◌-◌, Bool, List, [], 
 use Rattle.std.specs.List.{before_first}
 use Rattle.object_reader.specs.declared.block.Directive.{Directive}
 use Rattle.std.specs.Prelude.{codes}
-use Rattle.nagios_text.specs.Blocks.{looked_at, made, volatile_said}
-use Rattle.nagios_text.specs.Lone.{goes_on, line_said, lines_in, lines_said, with_between}
-use Rattle.nagios_text.specs.Values.{day_value, range_said}
+use Rattle.nagios_text.specs.claims.Blocks.{looked_at, made, volatile_said}
+use Rattle.nagios_text.specs.claims.Lone.{goes_on, line_said, lines_in, lines_said, with_between}
+use Rattle.nagios_text.specs.claims.Values.{day_value, range_said}
 use Rattle.nagios_text.proofs.PartLemmas.{between-more, last-part, more-parts, parts, some-part}
 
 -- one byte after another part

@@ -6,7 +6,7 @@ use Rattle.std.proofs.lemmas.List.Splits.{slice_split_first}
 use Rattle.std.proofs.lemmas.List.Sums.{prefix_len-le-length}
 use Rattle.std.proofs.Math.Seq.{take-length}
 use Rattle.lemmas.proofs.Lists.{slice_split-first}
-use Rattle.nagios_text.specs.Lone.{with_between}
+use Rattle.nagios_text.specs.claims.Lone.{with_between}
 
 -- the parts of bytes
 abbrev pub parts : (byte : ℕ) → List ℕ → List (List ℕ)

@@ -1,4 +1,1 @@
-pub mod Lone
-pub mod Names
-pub mod Values
-pub mod Blocks
+pub mod claims

@@ -1,7 +1,8 @@
 //! Blocks as Nagios reads them.
 
 ghost use Rattle.std.specs.Prelude.{◌≡◌, ◌++◌, ◌∷◌, [], IfOk, OnOk};
-ghost use Rattle.nagios_text.specs.Blocks.{emptied, is_volatile, looked_at, made, plain_block, plain_blocks, plain_directive, said, value_said, volatile_said};
+ghost use Rattle.nagios_text.specs.claims.Blocks.{emptied, is_volatile, looked_at, made, plain_block, plain_blocks};
+ghost use Rattle.nagios_text.specs.claims.Blocks.{plain_directive, said, value_said, volatile_said};
 
 use crate::lone::MARK;
 use crate::names::{is_word, plain_name};

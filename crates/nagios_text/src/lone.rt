@@ -2,8 +2,9 @@
 
 ghost use Rattle.std.specs.Prelude.{◌≡◌, ◌==◌, ◌++◌, IfOk, OnOk};
 ghost use Rattle.std.specs.List.{before_first, list_all, position};
-ghost use Rattle.object_reader.specs.Joined.{ends_in_backslash, without_last};
-ghost use Rattle.nagios_text.specs.Lone.{bare, ends_in_one, goes_on, is_lone, is_name, is_of_name, line_said, marked, said_of, without_return};
+ghost use Rattle.object_reader.specs.claims.Joined.{ends_in_backslash, without_last};
+ghost use Rattle.nagios_text.specs.claims.Lone.{bare, ends_in_one, goes_on, is_lone, is_name, is_of_name, line_said};
+ghost use Rattle.nagios_text.specs.claims.Lone.{marked, said_of, without_return};
 
 use crate::names::is_word;
 use object_reader::blanks::trim;

@@ -2,7 +2,8 @@
 
 ghost use Rattle.std.specs.Prelude.{◌≡◌};
 ghost use Rattle.std.specs.Str.{bytes_eq};
-ghost use Rattle.nagios_text.specs.Names.{for_contacts, for_dependents, for_hosts, for_masters, for_objects, for_service_blocks, for_service_masters, for_services, plain_name};
+ghost use Rattle.nagios_text.specs.claims.Names.{for_contacts, for_dependents, for_hosts, for_masters, for_objects};
+ghost use Rattle.nagios_text.specs.claims.Names.{for_service_blocks, for_service_masters, for_services, plain_name};
 
 use object_reader::block::BlockKind;
 

@@ -1,7 +1,8 @@
 //! What values mean that only Nagios takes: none at all, and times of a day that end before they begin.
 
 ghost use Rattle.std.specs.Prelude.{◌≡◌, ◌++◌, IfOk, OnOk};
-ghost use Rattle.nagios_text.specs.Values.{day_value, is_day, is_list_of_dependents, is_list_of_hosts, is_list_of_people, is_naming, is_period, range_said, takes_none};
+ghost use Rattle.nagios_text.specs.claims.Values.{day_value, is_day, is_list_of_dependents, is_list_of_hosts};
+ghost use Rattle.nagios_text.specs.claims.Values.{is_list_of_people, is_naming, is_period, range_said, takes_none};
 
 use crate::lone::before;
 use crate::names::is_word;

@@ -6,8 +6,8 @@ use Rattle.due_model.specs.declared.event.EventKind.{EventKind}
 use Rattle.due_model.specs.declared.event.EventKind.TheVariants.{Clock, Program, Hard, Downtime, Flapping, Ack, AckRemoved, OwnSwitch}
 use Rattle.due_model.specs.declared.state.State.TheVariants.{Pending}
 use Rattle.due_model.specs.Acknowledgements.{ack_after}
-use Rattle.due_model.specs.Readings.{depth_changed, hard_after, is_ok_state}
-use Rattle.due_model.specs.Rules.{same_state}
+use Rattle.due_model.specs.claims.Readings.{depth_changed, hard_after, is_ok_state}
+use Rattle.due_model.specs.claims.Rules.{same_state}
 use Rattle.night_marks.specs.declared.conditions.Condition.{Condition}
 
 -- before the first event nothing is known

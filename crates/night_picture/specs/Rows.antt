@@ -7,7 +7,7 @@ use Rattle.due_model.specs.declared.notice.Notice.{Notice}
 use Rattle.due_model.specs.declared.notice.Suppression.{Suppression}
 use Rattle.due_model.specs.declared.state.State.{State}
 use Rattle.due_model.specs.declared.zone.Zone.{Zone}
-use Rattle.due_model.specs.Rules.{same_state}
+use Rattle.due_model.specs.claims.Rules.{same_state}
 use Rattle.messages.specs.declared.entries.Entry.{Entry}
 use Rattle.messages.specs.declared.entries.Entry.TheVariants.{Sent, Withheld}
 use Rattle.night_marks.specs.declared.conditions.Change.{Change}
@@ -15,8 +15,8 @@ use Rattle.night_marks.specs.declared.conditions.Condition.{Condition}
 use Rattle.night_marks.specs.declared.night.Span.{Span}
 use Rattle.night_marks.specs.Conditions.{at_first, same}
 use Rattle.night_marks.specs.Lists.{is_of, mark_object}
-use Rattle.notice_text.specs.Names.{state_name}
-use Rattle.notice_text.specs.Texts.{object_text}
+use Rattle.notice_text.specs.claims.Names.{state_name}
+use Rattle.notice_text.specs.claims.Texts.{object_text}
 use Rattle.night_picture.specs.Shapes.{bar_text, cut_text, escaped_text, round_text}
 use Rattle.night_picture.specs.Titles.{contact_colour, state_colour, stopped_title, told_title}
 

@@ -9,8 +9,8 @@ use Rattle.due_model.specs.declared.state.State.{State}
 use Rattle.due_model.specs.declared.state.State.TheVariants.{Pending, Up, Down, Unreachable, Fine, Warning, Unknown, Critical}
 use Rattle.due_model.specs.declared.zone.Zone.{Zone}
 use Rattle.local_text.specs.Text.{iso_text}
-use Rattle.notice_text.specs.Names.{filter_name, kind_name, state_name}
-use Rattle.notice_text.specs.Texts.{contact_text, lane_text}
+use Rattle.notice_text.specs.claims.Names.{filter_name, kind_name, state_name}
+use Rattle.notice_text.specs.claims.Texts.{contact_text, lane_text}
 use Rattle.night_picture.specs.Shapes.{escaped_text}
 
 -- ---- colours

@@ -11,7 +11,7 @@ ghost use Rattle.night_picture.specs.Rows.{rows_text, start_text, state_band};
 ghost use Rattle.night_picture.specs.Rows.{state_change, stopped_mark, told_mark, told_paint, x_at};
 ghost use Rattle.night_picture.specs.Rows.{y_at};
 ghost use Rattle.night_picture.specs.Shapes.{escaped_text};
-ghost use Rattle.notice_text.specs.Texts.{object_text};
+ghost use Rattle.notice_text.specs.claims.Texts.{object_text};
 
 use crate::shapes::{Place, push_bar, push_cut, push_round, push_text};
 use crate::titles::{contact_colour, push_stopped_title, push_told_title, state_colour};

@@ -1,7 +1,7 @@
 //! The names of states, kinds and filters, as reports and letters write them.
 
 ghost use Rattle.std.specs.Prelude.{◌≡◌};
-ghost use Rattle.notice_text.specs.Names.{filter_name, kind_name, state_name};
+ghost use Rattle.notice_text.specs.claims.Names.{filter_name, kind_name, state_name};
 
 use due_model::notice::{Filter, Kind};
 use due_model::state::State;

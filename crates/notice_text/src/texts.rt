@@ -1,8 +1,8 @@
 //! The texts of numbers, objects, contacts and lanes.
 
 ghost use Rattle.std.specs.Prelude.{◌≡◌, ◌++◌, ℕ, List, OnErr, OnOk};
-ghost use Rattle.notice_text.specs.Texts.{contact_text, host_part, lane_text, number_text};
-ghost use Rattle.notice_text.specs.Texts.{object_text, own_name};
+ghost use Rattle.notice_text.specs.claims.Texts.{contact_text, host_part, lane_text, number_text};
+ghost use Rattle.notice_text.specs.claims.Texts.{object_text, own_name};
 
 use due_model::config::{Config, ContactId, LaneId, ObjectId};
 use itoa::Buffer;

@@ -3,8 +3,9 @@ use Rattle.std.proofs.Common.{◌≡◌, ℕ, Bool, List, [], ◌++◌, Option, 
 use Rattle.std.proofs.lemmas.Result.{IfOk-weaker}
 use Rattle.due_model.specs.declared.config.Config.{Config}
 use Rattle.due_model.specs.declared.zone.Zone.{Zone}
-use Rattle.event_feed.specs.Feed.{Answer, answers, feed_of}
-use Rattle.text_lines.specs.Lines.{pieces}
+use Rattle.event_feed.specs.claims.Feed.{Answer, answers}
+use Rattle.event_feed.specs.Feed.{feed_of}
+use Rattle.text_lines.specs.claims.Lines.{pieces}
 use Rattle.text_lines.specs.LineReader.{Reading, to_come}
 use Rattle.written.specs.WrittenLaws.{front_none}
 use Rattle.command_output.specs.declared.outcome.CommandFault.{CommandFault}

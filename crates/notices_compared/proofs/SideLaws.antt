@@ -5,9 +5,10 @@ use Rattle.due_model.specs.declared.config.Config.{Config}
 use Rattle.due_model.specs.declared.event.Event.{Event}
 use Rattle.due_model.specs.declared.notice.Notice.{Notice}
 use Rattle.due_model.specs.declared.zone.Zone.{Zone}
-use Rattle.event_feed.specs.Feed.{Answer, AnswersNext, AreGivenBy, Feed, PassesLines, answers_from, ends_feed}
+use Rattle.event_feed.specs.claims.Feed.{Answer, AreGivenBy, Feed, ends_feed}
+use Rattle.event_feed.specs.Feed.{AnswersNext, PassesLines, answers_from}
 use Rattle.event_feed.specs.FeedLaws.{Passed, earlier_more, known_same, known_then, passed_more, then_by}
-use Rattle.text_lines.specs.Lines.{pieces}
+use Rattle.text_lines.specs.claims.Lines.{pieces}
 use Rattle.notices_compared.specs.Past.{ends_short, is_ended, past_after}
 use Rattle.notices_compared.specs.Sides.{Follows, given_notices, line_notices, past_on}
 

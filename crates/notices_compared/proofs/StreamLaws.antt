@@ -6,13 +6,13 @@ use Rattle.due_model.specs.declared.config.Config.{Config}
 use Rattle.due_model.specs.declared.event.Event.{Event}
 use Rattle.due_model.specs.declared.notice.Notice.{Notice}
 use Rattle.due_model.specs.declared.zone.Zone.{Zone}
-use Rattle.decider.specs.Fits.{Fits, Kept}
+use Rattle.decider.specs.claims.Fits.{Fits, Kept}
 use Rattle.event_feed.specs.declared.fault.RefusedLine.{RefusedLine}
-use Rattle.event_feed.specs.Feed.{Answer, AreGivenBy, Feed, ends_feed, refusal}
+use Rattle.event_feed.specs.claims.Feed.{Answer, AreGivenBy, Feed, ends_feed, refusal}
 use Rattle.text_lines.specs.declared.line_reader.Stop.{Stop}
 use Rattle.command_output.specs.declared.outcome.Ending.{Ending}
 use Rattle.command_output.specs.declared.outcome.Ending.TheVariants.{Short, Whole}
-use Rattle.written.specs.Written.{Leaves, Writes, WritesFront}
+use Rattle.written.specs.claims.Written.{Leaves, Writes, WritesFront}
 use Rattle.written.specs.WrittenLaws.{front_less, front_longer, leaves_all, leaves_less, leaves_longer}
 use Rattle.notices_compared.specs.Past.{ends_short, is_ended}
 use Rattle.paired_feed.specs.declared.paired.PairedLine.{PairedLine}

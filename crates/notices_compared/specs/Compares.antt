@@ -2,10 +2,10 @@
 use Rattle.std.specs.Prelude.{◌≡◌, ℕ, Bool, List, [], ◌++◌, ◌||◌, Option, if◌then◌else◌}
 use Rattle.due_model.specs.declared.config.Config.{Config}
 use Rattle.due_model.specs.declared.zone.Zone.{Zone}
-use Rattle.event_feed.specs.Feed.{Answer}
+use Rattle.event_feed.specs.claims.Feed.{Answer}
 use Rattle.command_output.specs.declared.outcome.Ending.{Ending}
 use Rattle.command_output.specs.declared.outcome.Ending.TheVariants.{Short, Whole}
-use Rattle.written.specs.Written.{Writes, WritesFront}
+use Rattle.written.specs.claims.Written.{Writes, WritesFront}
 use Rattle.notices_compared.specs.Past.{AreOfFeed}
 use Rattle.notices_compared.specs.Past.{ends_short}
 use Rattle.paired_feed.specs.PairedLaws.{lines_of}

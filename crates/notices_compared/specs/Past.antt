@@ -2,10 +2,10 @@
 use Rattle.std.specs.Prelude.{ℕ, Bool, false, ◌||◌, ◌==◌, List, [], ◌∷◌, length, Result, Ok, Err}
 use Rattle.due_model.specs.declared.config.Config.{Config}
 use Rattle.due_model.specs.declared.event.Event.{Event}
-use Rattle.due_model.specs.Limits.{max_events}
+use Rattle.due_model.specs.claims.Limits.{max_events}
 use Rattle.event_feed.specs.declared.fault.FeedFault.{FeedFault}
-use Rattle.event_feed.specs.Feed.{Answer, AreGiven, answers, ends_feed}
-use Rattle.text_lines.specs.Lines.{pieces}
+use Rattle.event_feed.specs.claims.Feed.{Answer, AreGiven, answers, ends_feed}
+use Rattle.text_lines.specs.claims.Lines.{pieces}
 use Rattle.decider.specs.declared.share.Share.{Share}
 
 -- the share of a decider that decides alone: all objects

@@ -5,9 +5,11 @@ use Rattle.due_model.specs.declared.event.Event.{Event}
 use Rattle.due_model.specs.declared.notice.Notice.{Notice}
 use Rattle.due_model.specs.declared.zone.Zone.{Zone}
 use Rattle.event_feed.specs.declared.fault.FeedFault.{FeedFault}
-use Rattle.event_feed.specs.Feed.{Answer, Feed, PassesLines, answers_from, ends_feed}
-use Rattle.text_lines.specs.Lines.{Known}
-use Rattle.messages.specs.Entries.{event_entries, notices_in}
+use Rattle.event_feed.specs.claims.Feed.{Answer, Feed, ends_feed}
+use Rattle.event_feed.specs.Feed.{PassesLines, answers_from}
+use Rattle.text_lines.specs.claims.Lines.{Known}
+use Rattle.messages.specs.claims.Entries.{event_entries}
+use Rattle.messages.specs.Entries.{notices_in}
 use Rattle.notices_compared.specs.Past.{ends_short, is_ended, past_after}
 
 -- the notices of an event after a past; a refused line has none

@@ -2,9 +2,9 @@
 use Rattle.std.specs.Prelude.{◌≡◌, ℕ, Bool, List, [], ◌++◌, Option}
 use Rattle.due_model.specs.declared.config.Config.{Config}
 use Rattle.due_model.specs.declared.zone.Zone.{Zone}
-use Rattle.event_feed.specs.Feed.{Answer, AreGivenBy, Feed}
+use Rattle.event_feed.specs.claims.Feed.{Answer, AreGivenBy, Feed}
 use Rattle.command_output.specs.declared.outcome.Ending.{Ending}
-use Rattle.written.specs.Written.{Writes, WritesFront}
+use Rattle.written.specs.claims.Written.{Writes, WritesFront}
 use Rattle.paired_feed.specs.Paired.{since}
 use Rattle.changed_notices.specs.declared.changed.ChangeForm.{ChangeForm}
 use Rattle.notices_compared.specs.Compares.{AreSameLines, changes_between, ending_of}

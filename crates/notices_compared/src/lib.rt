@@ -3,8 +3,8 @@
 #![tactic(auto)]
 
 ghost use Rattle.std.specs.Prelude.{IfErr, IfOk, IfSome};
-ghost use Rattle.command_output.specs.Outcome.{IsWriteFault};
-ghost use Rattle.due_model.specs.Accepted.{IsAccepted};
+ghost use Rattle.command_output.specs.claims.Outcome.{IsWriteFault};
+ghost use Rattle.due_model.specs.claims.Accepted.{IsAccepted};
 ghost use Rattle.notices_compared.specs.Compares.{ComparesFor, ComparesFrontFor};
 
 mod comparison;

@@ -3,9 +3,9 @@
 ghost use Rattle.std.specs.Prelude.{◌≡◌, ◌++◌, ◌||◌, [], List, false, IfErr, IfOk, Ok, OnOk};
 ghost use Rattle.command_output.specs.declared.outcome.CommandFault.TheVariants.{NoMemory};
 ghost use Rattle.due_model.specs.declared.event.Event.{Event};
-ghost use Rattle.due_model.specs.Accepted.{IsAccepted};
-ghost use Rattle.due_model.specs.Proper.{IsProper};
-ghost use Rattle.decider.specs.Fits.{Fits, core_kept, settings};
+ghost use Rattle.due_model.specs.claims.Accepted.{IsAccepted};
+ghost use Rattle.due_model.specs.claims.Proper.{IsProper};
+ghost use Rattle.decider.specs.claims.Fits.{Fits, core_kept, settings};
 ghost use Rattle.messages.specs.Entries.{notices_in};
 ghost use Rattle.notices_compared.specs.Sides.{given_notices, past_on};
 ghost use Rattle.notices_compared.specs.Past.{is_ended, whole_share};

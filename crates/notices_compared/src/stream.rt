@@ -1,12 +1,12 @@
 //! A comparison over a feed, as it comes.
 
 ghost use Rattle.std.specs.Prelude.{◌≡◌, [], false, length, None, IfErr, IfOk, OnOk};
-ghost use Rattle.command_output.specs.Outcome.{IsWriteFault};
+ghost use Rattle.command_output.specs.claims.Outcome.{IsWriteFault};
 ghost use Rattle.contact_tallies.specs.Tallies.{AreTallies};
-ghost use Rattle.decider.specs.Fits.{Fits, core_kept};
+ghost use Rattle.decider.specs.claims.Fits.{Fits, core_kept};
 ghost use Rattle.notices_compared.specs.Stream.{WritesChanges, WritesChangesFront};
-ghost use Rattle.text_lines.specs.Lines.{has_line};
-ghost use Rattle.written.specs.Written.{Leaves, WritesFront};
+ghost use Rattle.text_lines.specs.claims.Lines.{has_line};
+ghost use Rattle.written.specs.claims.Written.{Leaves, WritesFront};
 
 use crate::comparison::Comparison;
 use command_output::{CommandFault, Ending, Sink};

@@ -3,7 +3,7 @@ use Rattle.std.proofs.Common.{Bor}
 use Rattle.std.specs.Prelude.{ℕ, ◌≤◌, ◌⊎◌, IsSomeAnd, List, Option}
 use Rattle.command_line.specs.declared.why.WhyWords.{WhyWords}
 use Rattle.command_line.specs.declared.words.WhoWords.{WhoWords}
-use Rattle.due_model.specs.Limits.{last_moment}
+use Rattle.due_model.specs.claims.Limits.{last_moment}
 use Rattle.due_model.specs.declared.zone.Zone.{Zone}
 use Rattle.given_times.specs.Given.{IsMinutes, IsMoment, most_minutes}
 

@@ -2,7 +2,7 @@
 
 ghost use Rattle.std.specs.Prelude.{◌≡◌, ◌≤◌, IfSome, None};
 ghost use Rattle.std.specs.Process.{exit_status};
-ghost use Rattle.due_model.specs.Limits.{last_moment};
+ghost use Rattle.due_model.specs.claims.Limits.{last_moment};
 ghost use Rattle.notify_run.specs.Times.{IsBadLength, IsBadTime, IsNoMoment};
 ghost use Rattle.who_told.specs.Fault.{who_status};
 

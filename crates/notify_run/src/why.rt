@@ -2,8 +2,8 @@
 
 ghost use Rattle.std.specs.Prelude.{◌≡◌, ◌≤◌, IfOk, IfSome, None};
 ghost use Rattle.std.specs.Process.{exit_status};
-ghost use Rattle.due_model.specs.Accepted.{IsAccepted};
-ghost use Rattle.due_model.specs.Limits.{last_moment};
+ghost use Rattle.due_model.specs.claims.Accepted.{IsAccepted};
+ghost use Rattle.due_model.specs.claims.Limits.{last_moment};
 ghost use Rattle.notify_run.specs.Times.{IsBadSpan, IsNoMoment};
 
 use crate::faults::file_text;

@@ -12,24 +12,24 @@ use Rattle.object_check.specs.Misfits.{misfits_at}
 use Rattle.object_check.specs.Rows.{Asked, name_rows, value_rows}
 use Rattle.object_check.specs.declared.misfits.Misfit.{Misfit}
 use Rattle.object_faults.specs.Columns.{first_of}
-use Rattle.object_faults.specs.Dated.{has_bad_line, has_other_line}
-use Rattle.object_faults.specs.Faults as faults
-use Rattle.object_faults.specs.Faults.{fault_of, is_broken, is_registered, lacks, value_fault}
-use Rattle.object_faults.specs.Tables.{name_lists, names, numbers, option_lists, range_lines, zeros}
+use Rattle.object_faults.specs.claims.Dated.{has_bad_line, has_other_line}
+use Rattle.object_faults.specs.claims.Faults as faults
+use Rattle.object_faults.specs.claims.Faults.{fault_of, is_broken, is_registered, lacks, value_fault}
+use Rattle.object_faults.specs.claims.Tables.{name_lists, names, numbers, option_lists, range_lines, zeros}
 use Rattle.object_faults.specs.declared.column.Check.{Check}
 use Rattle.object_faults.specs.declared.column.Check.TheVariants.{Given, Number, Ranges, Zero, Names}
 use Rattle.object_faults.specs.declared.fault.ValueFault.{ValueFault}
 use Rattle.object_faults.specs.declared.fault.ValueFault.TheVariants.{MissingDirective, BadNumber, BadOption, BadRange, Volatile, Exclusion, DatedException}
 use Rattle.object_faults.specs.declared.needs.Side.TheVariants.{Masters, Dependents}
-use Rattle.object_inheritance.specs.Kinds.{is_period, means_nothing}
-use Rattle.object_inheritance.specs.Templates.{kind_number}
-use Rattle.object_names.specs.References.{references}
-use Rattle.object_names.specs.Unknown as unknown
+use Rattle.object_inheritance.specs.claims.Kinds.{is_period, means_nothing}
+use Rattle.object_inheritance.specs.claims.Templates.{kind_number}
+use Rattle.object_names.specs.claims.References.{references}
+use Rattle.object_names.specs.claims.Unknown as unknown
 use Rattle.object_reader.specs.declared.block.Block.{Block}
 use Rattle.object_reader.specs.declared.block.BlockKind.{BlockKind}
 use Rattle.object_reader.specs.declared.block.BlockKind.TheVariants.{Host, HostGroup, Service, ServiceGroup, Contact, ContactGroup, TimePeriod, Command, HostEscalation, ServiceEscalation, HostDependency, ServiceDependency, HostExtInfo, ServiceExtInfo}
-use Rattle.object_names.specs.Unknown.{HasUnknown}
-use Rattle.object_groups.specs.First.{IsFirst}
+use Rattle.object_names.specs.claims.Unknown.{HasUnknown}
+use Rattle.object_groups.specs.claims.First.{IsFirst}
 
 no-cons : {X : Type 0} (x : X) (xs : List X) → [] ≡ x ∷ xs → ⊥
 no-cons x xs is = let lengths = ap length is in omega (arith, lengths)

@@ -14,14 +14,15 @@ use Rattle.object_check.specs.declared.rows.Must.{Must}
 use Rattle.object_check.specs.declared.rows.Must.TheVariants.{Be, Name, HaveWholeLines, HaveDayLines}
 use Rattle.object_check.specs.declared.rows.Must.TheVariants as musts
 use Rattle.object_reader.specs.declared.block.BlockKind.{BlockKind}
-use Rattle.object_faults.specs.Dated.{directive_names, has_line, is_bad_line, is_other_line}
-use Rattle.object_inheritance.specs.DatedLines.{AreLines, dated_line, named}
+use Rattle.object_faults.specs.claims.Dated.{directive_names, has_line, is_bad_line, is_other_line}
+use Rattle.object_inheritance.specs.claims.DatedLines.{AreLines, dated_line}
+use Rattle.object_inheritance.specs.DatedLines.{named}
 use Rattle.object_inheritance.specs.declared.dated_lines.Line.{Line}
-use Rattle.object_inheritance.specs.Inherited.{first_given, given, given_along, own, sources, value}
+use Rattle.object_inheritance.specs.claims.Inherited.{first_given, given, given_along, own, sources, value}
 use Rattle.object_reader.specs.declared.block.Block.{Block}
 use Rattle.object_reader.specs.declared.block.Directive.{Directive}
-use Rattle.object_values.specs.Ranges.{is_dated}
-use Rattle.object_values.specs.Values.{value_in}
+use Rattle.object_values.specs.claims.Ranges.{is_dated}
+use Rattle.object_values.specs.claims.Values.{value_in}
 
 same-name : (one other : List ℕ) → bytes_eq one other ≡ true → one ≡ other
 same-name one other is = (bytes_eq-Decides one other).0 is

@@ -18,20 +18,20 @@ use Rattle.object_check.specs.declared.rows.Must.TheVariants.{Be, Name, HaveWhol
 use Rattle.object_check.specs.declared.rows.Must.TheVariants as musts
 use Rattle.object_faults.specs.declared.column.Check.{Check}
 use Rattle.object_faults.specs.declared.column.Check.TheVariants.{Given, Number, Options, Criteria, Ranges, Zero, Names}
-use Rattle.object_faults.specs.Faults as faults
-use Rattle.object_groups.specs.Names.{has_unknown, is_exclusion, lacks_any}
-use Rattle.object_groups.specs.Objects.{names_in}
+use Rattle.object_faults.specs.claims.Faults as faults
+use Rattle.object_groups.specs.claims.Names.{has_unknown, is_exclusion, lacks_any}
+use Rattle.object_groups.specs.claims.Objects.{names_in}
 use Rattle.object_inheritance.specs.Columns.{Column}
-use Rattle.object_inheritance.specs.Inherited.{given, list_given, name_of}
-use Rattle.object_inheritance.specs.Templates.{kind_number}
-use Rattle.object_names.specs.Named.{block_kind}
+use Rattle.object_inheritance.specs.claims.Inherited.{given, list_given, name_of}
+use Rattle.object_inheritance.specs.claims.Templates.{kind_number}
+use Rattle.object_names.specs.claims.Named.{block_kind}
 use Rattle.object_names.specs.declared.named.NamedKind.{NamedKind}
 use Rattle.object_names.specs.declared.references.Reading.{Reading}
 use Rattle.object_names.specs.declared.references.Reading.TheVariants as reading
-use Rattle.object_names.specs.Unknown.{lacks_period}
+use Rattle.object_names.specs.claims.Unknown.{lacks_period}
 use Rattle.object_reader.specs.declared.block.Block.{Block}
 use Rattle.object_reader.specs.declared.block.BlockKind.{BlockKind}
-use Rattle.object_values.specs.Values.{command_name}
+use Rattle.object_values.specs.claims.Values.{command_name}
 
 -- ---- what was found of a block
 

@@ -6,11 +6,11 @@ use Rattle.object_check.specs.declared.rows.Must.TheVariants.{Be, Name, HaveWhol
 use Rattle.object_check.specs.declared.rows.Must.TheVariants as musts
 use Rattle.object_check.specs.Rows.{Asked, value_rows}
 use Rattle.object_faults.specs.Columns.{fault_name}
-use Rattle.object_faults.specs.Faults.{AreFree, IsFirstFault}
+use Rattle.object_faults.specs.claims.Faults.{AreFree, IsFirstFault}
 use Rattle.object_faults.specs.declared.fault.ValueFault.{ValueFault}
 use Rattle.object_faults.specs.declared.fault.ValueFault.TheVariants.{MissingDirective, BadRange, DatedException}
-use Rattle.object_groups.specs.First.{IsFirst}
-use Rattle.object_names.specs.Unknown.{HasUnknown}
+use Rattle.object_groups.specs.claims.First.{IsFirst}
+use Rattle.object_names.specs.claims.Unknown.{HasUnknown}
 use Rattle.object_reader.specs.declared.block.Block.{Block}
 
 -- the fault of a block that isn't what it must be by itself; names are of another pass

@@ -7,13 +7,13 @@ use Rattle.object_check.specs.declared.rows.Must.TheVariants.{Be, Name, HaveWhol
 use Rattle.object_check.specs.declared.rows.Must.TheVariants as musts
 use Rattle.object_check.specs.Misfits.{misfits_in}
 use Rattle.object_check.specs.Rows.{Asked, name_rows, value_rows}
-use Rattle.object_faults.specs.Dated.{has_bad_line, has_other_line, is_bad_line, is_other_line}
-use Rattle.object_faults.specs.Faults.{is_broken, is_registered, lacks}
-use Rattle.object_groups.specs.Objects.{names_in}
+use Rattle.object_faults.specs.claims.Dated.{has_bad_line, has_other_line, is_bad_line, is_other_line}
+use Rattle.object_faults.specs.claims.Faults.{is_broken, is_registered, lacks}
+use Rattle.object_groups.specs.claims.Objects.{names_in}
 use Rattle.object_inheritance.specs.Columns.{Column}
-use Rattle.object_inheritance.specs.Templates.{kind_number}
-use Rattle.object_names.specs.Named.{block_kind}
-use Rattle.object_names.specs.Unknown.{is_unknown}
+use Rattle.object_inheritance.specs.claims.Templates.{kind_number}
+use Rattle.object_names.specs.claims.Named.{block_kind}
+use Rattle.object_names.specs.claims.Unknown.{is_unknown}
 use Rattle.object_reader.specs.declared.block.Block.{Block}
 use Rattle.object_reader.specs.declared.block.BlockKind.{BlockKind}
 

@@ -4,9 +4,9 @@ use Rattle.std.proofs.Common.{Bor}
 use Rattle.std.specs.Prelude.{ℕ, List, [], ◌∷◌, ◌++◌, codes, flat_map, map}
 use Rattle.object_faults.specs.declared.column.Check.TheVariants.{Given, Number, Ranges, Zero, Names}
 use Rattle.object_faults.specs.declared.needs.Side.TheVariants.{Masters, Dependents}
-use Rattle.object_faults.specs.Tables.{name_lists, names, numbers, option_lists, range_lines, zeros}
+use Rattle.object_faults.specs.claims.Tables.{name_lists, names, numbers, option_lists, range_lines, zeros}
 use Rattle.object_names.specs.declared.references.Reference.{Reference}
-use Rattle.object_names.specs.References.{directive_of, named_of, reading_of, references}
+use Rattle.object_names.specs.claims.References.{directive_of, named_of, reading_of, references}
 use Rattle.object_reader.specs.declared.block.BlockKind.{BlockKind}
 use Rattle.object_reader.specs.declared.block.BlockKind.TheVariants.{Host, HostGroup, Service, ServiceGroup, Contact, ContactGroup, TimePeriod, Command, HostEscalation, ServiceEscalation, HostDependency, ServiceDependency}
 use Rattle.object_check.specs.declared.rows.Must.{Must}

@@ -4,13 +4,14 @@ ghost use Rattle.std.specs.Prelude.{◌≡◌, None, false, map, slice_index_or,
 ghost use Rattle.std.specs.List.{list_any};
 ghost use Rattle.std.specs.Option.{option_copied, option_map_or};
 ghost use Rattle.object_check.specs.Marks.{AreFound, breaks, is_of_value};
-ghost use Rattle.object_faults.specs.Faults as faults;
-ghost use Rattle.object_groups.specs.Names.{is_exclusion, lacks_any};
-ghost use Rattle.object_groups.specs.Objects.{list_at};
-ghost use Rattle.object_inheritance.specs.Inherited.{value};
-ghost use Rattle.object_names.specs.Unknown.{is_unknown, lacks_period};
+ghost use Rattle.object_faults.specs.claims.Faults as faults;
+ghost use Rattle.object_groups.specs.claims.Names.{is_exclusion, lacks_any};
+ghost use Rattle.object_groups.specs.claims.Objects.{list_at};
+ghost use Rattle.object_inheritance.specs.claims.Inherited.{value};
+ghost use Rattle.object_names.specs.claims.Unknown.{is_unknown, lacks_period};
 ghost use Rattle.object_reader.specs.declared.block.BlockKind.{BlockKind};
-ghost use Rattle.object_values.specs.Values.{command_name, texts};
+ghost use Rattle.object_values.specs.claims.Values.{command_name};
+ghost use Rattle.object_values.specs.Values.{texts};
 
 use crate::rows::Must;
 use object_faults::column::Check;

@@ -4,8 +4,8 @@
 ghost use Rattle.std.specs.Prelude.{◌≡◌, ℕ, ◌<◌, List, length, true, IfOk, OnOk};
 ghost use Rattle.std.specs.List.{list_any};
 ghost use Rattle.object_check.specs.Marks.{breaks, is_of_lines, is_unfit_line};
-ghost use Rattle.object_faults.specs.Dated.{has_colon, has_time, is_bad_day, is_bad_line};
-ghost use Rattle.object_faults.specs.Dated.{is_other_day, is_other_line};
+ghost use Rattle.object_faults.specs.claims.Dated.{has_colon, has_time, is_bad_day, is_bad_line};
+ghost use Rattle.object_faults.specs.claims.Dated.{is_other_day, is_other_line};
 ghost use Rattle.object_inheritance.specs.LineSearch.{AreMarks};
 ghost use Rattle.object_reader.specs.declared.block.BlockKind.{BlockKind};
 

@@ -8,9 +8,9 @@ ghost use Rattle.object_check.specs.Marks.{is_of_lines, is_of_value, name_misfit
 ghost use Rattle.object_check.specs.Misfits.{misfits_in};
 ghost use Rattle.object_check.specs.Rows.{said_by};
 ghost use Rattle.object_check.specs.declared.rows.Must.TheVariants as musts;
-ghost use Rattle.object_faults.specs.Faults.{is_registered, lacks};
+ghost use Rattle.object_faults.specs.claims.Faults.{is_registered, lacks};
 ghost use Rattle.object_inheritance.specs.LineSearch.{AreMarks};
-ghost use Rattle.object_inheritance.specs.Templates.{kind_number};
+ghost use Rattle.object_inheritance.specs.claims.Templates.{kind_number};
 ghost use Rattle.object_reader.specs.declared.block.BlockKind.{BlockKind};
 
 use crate::asked::is_unfit_once;

@@ -1,10 +1,10 @@
 //! The lists of which a block must have an entry: of hosts, or of services.
 
 ghost use Rattle.std.specs.Prelude.{◌≡◌, IfOk};
-ghost use Rattle.object_faults.specs.Faults.{has_hosts, has_services, is_listed, lacks};
-ghost use Rattle.object_faults.specs.Tables.{description_directive, group_directive};
-ghost use Rattle.object_faults.specs.Tables.{host_directive};
-ghost use Rattle.object_faults.specs.Tables.{masters_alone, needed, service_group_directive};
+ghost use Rattle.object_faults.specs.claims.Faults.{has_hosts, has_services, is_listed, lacks};
+ghost use Rattle.object_faults.specs.claims.Tables.{description_directive, group_directive};
+ghost use Rattle.object_faults.specs.claims.Tables.{host_directive};
+ghost use Rattle.object_faults.specs.claims.Tables.{masters_alone, needed, service_group_directive};
 
 use object_faults::needs::{Need, Side};
 use object_inheritance::inherited::{Values, values_of};

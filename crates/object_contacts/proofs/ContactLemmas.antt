@@ -4,8 +4,9 @@ use Rattle.std.specs.List.{AllZip}
 use Rattle.std.proofs.lemmas.List.{get_or-map, take_more}
 use Rattle.std.proofs.lemmas.Slice.Zip.{all_zipped_more}
 use Rattle.due_model.specs.declared.config.Contact as model
-use Rattle.object_contacts.specs.Contacts.{AreContactsOf, IsContactOf}
-use Rattle.object_groups.specs.Objects.{name_at, names_in, objects_in, ObjectsOf}
+use Rattle.object_contacts.specs.claims.Contacts.{AreContactsOf, IsContactOf}
+use Rattle.object_groups.specs.claims.Objects.{name_at, names_in, objects_in}
+use Rattle.object_groups.specs.Objects.{ObjectsOf}
 use Rattle.object_reader.specs.declared.block.Block.{Block}
 use Rattle.object_reader.specs.declared.block.BlockKind.TheVariants.{Contact}
 

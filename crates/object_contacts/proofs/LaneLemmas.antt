@@ -4,10 +4,12 @@ use Rattle.std.specs.Prelude.{codes}
 use Rattle.std.proofs.lemmas.Bool.{false≢true}
 use Rattle.std.proofs.lemmas.List.{length-replicate}
 use Rattle.lemmas.proofs.Lists.{none-marked}
-use Rattle.object_contacts.specs.Lanes.{AreLanes, AreRead, IsLane, IsUsed, NamesCommand}
+use Rattle.object_contacts.specs.claims.Lanes.{AreLanes, IsLane, IsUsed, NamesCommand}
+use Rattle.object_contacts.specs.Lanes.{AreRead}
 use Rattle.object_contacts.specs.Marks.{marked, Marks, OfSome}
 use Rattle.object_contacts.proofs.MarkLemmas.{are-lanes, marks-both}
-use Rattle.object_groups.specs.Objects.{list_at, names_in, objects_in, ObjectsOf}
+use Rattle.object_groups.specs.claims.Objects.{list_at, names_in, objects_in}
+use Rattle.object_groups.specs.Objects.{ObjectsOf}
 use Rattle.object_inheritance.specs.Columns.{Column}
 use Rattle.object_reader.specs.declared.block.Block.{Block}
 use Rattle.object_reader.specs.declared.block.BlockKind.TheVariants.{Command, Contact}

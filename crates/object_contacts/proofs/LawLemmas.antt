@@ -3,18 +3,18 @@ use Rattle.std.proofs.Common.{◌≡◌, ℕ, Bool, true, List, [], Option, None
 use Rattle.std.specs.Prelude.{codes, map, not, ◌==◌, unwrap_or}
 use Rattle.std.specs.Option.{option_and_then, option_map, option_map_or}
 use Rattle.due_model.specs.declared.config.Contact as model
-use Rattle.object_contacts.specs.Contacts.{IsContactOf, letters_unlisted}
-use Rattle.object_contacts.specs.Lanes.{AreLanes, NamesLane}
+use Rattle.object_contacts.specs.claims.Contacts.{IsContactOf, letters_unlisted}
+use Rattle.object_contacts.specs.claims.Lanes.{AreLanes, NamesLane}
 use Rattle.object_listing.specs.Plain.{plain_letters, plain_number, plain_period}
 use Rattle.object_contacts.specs.Laws.{IsPlainContact, PlainContactHasItsOwn}
-use Rattle.object_groups.specs.Objects.{list_at, names_in}
-use Rattle.object_inheritance.specs.Inherited.{name_of, own, own_entries}
+use Rattle.object_groups.specs.claims.Objects.{list_at, names_in}
+use Rattle.object_inheritance.specs.claims.Inherited.{name_of, own, own_entries}
 use Rattle.object_inheritance.specs.Laws.{PlainBlockHasItsOwn, PlainListHasItsOwn}
 use Rattle.object_reader.specs.declared.block.Block.{Block}
 use Rattle.object_reader.specs.declared.block.BlockKind.TheVariants.{Command, TimePeriod}
-use Rattle.object_listing.specs.Readings.{is_on, letters_or, period_at, period_named}
-use Rattle.object_values.specs.Options.{options_in}
-use Rattle.object_values.specs.Values.{number_in}
+use Rattle.object_listing.specs.claims.Readings.{is_on, letters_or, period_at, period_named}
+use Rattle.object_values.specs.claims.Options.{options_in}
+use Rattle.object_values.specs.claims.Values.{number_in}
 use Rattle.object_values.specs.declared.options.OptionKind.{OptionKind}
 use Rattle.object_values.specs.declared.options.OptionKind.TheVariants as lists
 

@@ -11,7 +11,7 @@ use Rattle.std.proofs.lemmas.List.Kept.{IsStrictlyIncreasing-filter}
 use Rattle.lemmas.proofs.Elements.{Contains-filter, Contains-from_filter, Contains-none, Contains-range}
 use Rattle.lemmas.proofs.Writes.{at_set}
 use Rattle.lemmas.proofs.Lists.{none-marked}
-use Rattle.object_contacts.specs.Lanes.{AreLanes}
+use Rattle.object_contacts.specs.claims.Lanes.{AreLanes}
 use Rattle.object_contacts.specs.Marks.{IsMarked, marked, Marks, OfSome}
 
 -- ---- marks that come to others

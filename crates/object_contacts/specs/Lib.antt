@@ -1,3 +1,4 @@
+pub mod claims
 pub mod Lanes
 pub mod Contacts
 pub mod Marks

@@ -1,9 +1,10 @@
 //! The contacts of a configuration.
 
 ghost use Rattle.std.specs.Prelude.{◌≡◌, ◌≤◌, length, IfOk};
-ghost use Rattle.due_model.specs.Limits.{max_lanes, max_periods};
-ghost use Rattle.object_contacts.specs.Contacts.{AreContactsOf, AreContactValues, IsContactOf};
-ghost use Rattle.object_groups.specs.Objects.{name_at, names_in};
+ghost use Rattle.due_model.specs.claims.Limits.{max_lanes, max_periods};
+ghost use Rattle.object_contacts.specs.claims.Contacts.{AreContactsOf, IsContactOf};
+ghost use Rattle.object_contacts.specs.Contacts.{AreContactValues};
+ghost use Rattle.object_groups.specs.claims.Objects.{name_at, names_in};
 ghost use Rattle.object_reader.specs.declared.block.BlockKind.TheVariants as blocks;
 
 use crate::lanes::text_of;

@@ -1,10 +1,11 @@
 //! The lanes of a configuration: the notification commands that contacts name.
 
 ghost use Rattle.std.specs.Prelude.{◌≡◌, ◌<◌, length, map, slice_index_or, [], IfOk, IfSome, OnOk};
-ghost use Rattle.object_contacts.specs.Lanes.{AreLanes, AreRead, IsLane, command_named};
-ghost use Rattle.object_contacts.specs.Lanes.{NamesCommand};
+ghost use Rattle.object_contacts.specs.claims.Lanes.{AreLanes, IsLane, command_named};
+ghost use Rattle.object_contacts.specs.Lanes.{AreRead};
+ghost use Rattle.object_contacts.specs.claims.Lanes.{NamesCommand};
 ghost use Rattle.object_contacts.specs.Marks.{Marks, OfSome};
-ghost use Rattle.object_groups.specs.Objects.{list_at};
+ghost use Rattle.object_groups.specs.claims.Objects.{list_at};
 ghost use Rattle.object_reader.specs.declared.block.BlockKind.TheVariants.{Command, Contact};
 ghost use Rattle.object_values.specs.Values.{texts};
 

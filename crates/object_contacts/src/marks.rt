@@ -3,7 +3,7 @@
 ghost use Rattle.std.specs.Prelude.{◌≡◌, ◌<◌, ◌≤◌, ◌++◌, ◌∷◌, [], length, map};
 ghost use Rattle.std.specs.Prelude.{false, slice_index_or, Some};
 ghost use Rattle.std.specs.Prelude.{All, IfOk, IfSome, OnOk, if◌then◌else◌};
-ghost use Rattle.due_model.specs.Limits.{max_lanes};
+ghost use Rattle.due_model.specs.claims.Limits.{max_lanes};
 ghost use Rattle.object_contacts.specs.Marks.{marked, Marks};
 
 use due_model::config::LaneId;

@@ -1,13 +1,14 @@
 //! What contacts are notified of, and by which lanes.
 
 ghost use Rattle.std.specs.Prelude.{◌≡◌, ◌≤◌, ◌<◌, length, map, IfOk, IfSome};
-ghost use Rattle.due_model.specs.Limits.{max_lanes, max_periods};
-ghost use Rattle.object_contacts.specs.Contacts.{AreRightsOf, AreRightsValues, commands_directive};
-ghost use Rattle.object_contacts.specs.Contacts.{enabled_directive, letters_unlisted, option_kind};
-ghost use Rattle.object_contacts.specs.Contacts.{options_directive, period_directive};
-ghost use Rattle.object_contacts.specs.Lanes.{AreLanes, lane_named, lane_of, NamesLane};
+ghost use Rattle.due_model.specs.claims.Limits.{max_lanes, max_periods};
+ghost use Rattle.object_contacts.specs.claims.Contacts.{AreRightsOf, commands_directive};
+ghost use Rattle.object_contacts.specs.Contacts.{AreRightsValues};
+ghost use Rattle.object_contacts.specs.claims.Contacts.{enabled_directive, letters_unlisted, option_kind};
+ghost use Rattle.object_contacts.specs.claims.Contacts.{options_directive, period_directive};
+ghost use Rattle.object_contacts.specs.claims.Lanes.{AreLanes, lane_named, lane_of, NamesLane};
 ghost use Rattle.object_contacts.specs.Marks.{Marks};
-ghost use Rattle.object_groups.specs.Objects.{names_in};
+ghost use Rattle.object_groups.specs.claims.Objects.{names_in};
 ghost use Rattle.object_reader.specs.declared.block.BlockKind.TheVariants.{Command, TimePeriod};
 ghost use Rattle.object_values.specs.Values.{texts};
 

@@ -5,16 +5,17 @@ use Rattle.std.proofs.lemmas.Bool.{false≢true}
 use Rattle.lemmas.proofs.Elements.{Contains-none}
 use Rattle.lemmas.proofs.Lists.{AllPairs-nil}
 use Rattle.due_model.specs.declared.state.StateSet.{StateSet}
-use Rattle.object_groups.specs.Objects.{is_object, is_object_at}
+use Rattle.object_groups.specs.claims.Objects.{is_object, is_object_at}
 use Rattle.object_groups.specs.ObjectLaws.{object-at}
-use Rattle.object_listing.specs.Listing.{AreThose}
+use Rattle.object_listing.specs.claims.Listing.{AreThose}
 use Rattle.object_reached.specs.declared.roles.Role.TheVariants.{Dependent, Master}
-use Rattle.object_reached.specs.Reached.{SpeaksOf}
+use Rattle.object_reached.specs.claims.Reached.{SpeaksOf}
 use Rattle.object_reader.specs.declared.block.Block.{Block}
 use Rattle.object_reader.specs.declared.block.BlockKind.TheVariants.{HostDependency, ServiceDependency}
-use Rattle.object_listing.specs.Readings.{own_states}
+use Rattle.object_listing.specs.claims.Readings.{own_states}
 use Rattle.object_values.specs.declared.options.CriteriaKind.TheVariants.{OfHosts, OfServices}
-use Rattle.object_dependencies.specs.Pairs.{ArePairs, DependsAt, IsBefore, kept_states, Pair, paired}
+use Rattle.object_dependencies.specs.claims.Pairs.{ArePairs, DependsAt, IsBefore, kept_states, Pair}
+use Rattle.object_dependencies.specs.Pairs.{paired}
 use Rattle.object_dependencies.proofs.PairLemmas.{ordered-from}
 use Rattle.object_dependencies.specs.PairLaws.{paired-from, paired-has}
 

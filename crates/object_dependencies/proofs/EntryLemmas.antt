@@ -12,11 +12,11 @@ use Rattle.due_model.specs.declared.config.PeriodId.{PeriodId}
 use Rattle.due_model.specs.declared.state.StateSet.{StateSet}
 use Rattle.object_inheritance.specs.Columns.{Column}
 use Rattle.object_reader.specs.declared.block.Block.{Block}
-use Rattle.object_listing.specs.Readings.{is_on, period_at}
-use Rattle.object_values.specs.Options.{no_state}
+use Rattle.object_listing.specs.claims.Readings.{is_on, period_at}
+use Rattle.object_values.specs.claims.Options.{no_state}
 use Rattle.object_dependencies.specs.declared.entries.Terms.{Terms}
-use Rattle.object_dependencies.specs.Entries.{entries_at, entries_in, entry_of, terms_at}
-use Rattle.object_dependencies.specs.Pairs.{ArePairs, ArePairsBelow, kept_states, Pair}
+use Rattle.object_dependencies.specs.claims.Entries.{entries_at, entries_in, entry_of, terms_at}
+use Rattle.object_dependencies.specs.claims.Pairs.{ArePairs, ArePairsBelow, kept_states, Pair}
 
 -- ---- what the dependencies of a block have in common
 

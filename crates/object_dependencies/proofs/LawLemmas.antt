@@ -4,20 +4,20 @@ use Rattle.std.specs.Prelude.{All, codes, Contains, unwrap_or}
 use Rattle.std.specs.List.{AllZip, range_with_len}
 use Rattle.std.specs.Option.{IfSome, option_map}
 use Rattle.std.proofs.lemmas.List.Elements.{Contains-get_or}
-use Rattle.graph.specs.Chains.{Chain}
+use Rattle.graph.specs.claims.Chains.{Chain}
 use Rattle.lemmas.proofs.Elements.{Contains-from_flat_map, Contains-from_map, Contains-from_range}
-use Rattle.due_model.specs.Accepted.{DependencyFits, DependsOn}
+use Rattle.due_model.specs.claims.Accepted.{DependencyFits, DependsOn}
 use Rattle.due_model.specs.declared.config.Dependency.{Dependency}
-use Rattle.object_inheritance.specs.Inherited.{name}
+use Rattle.object_inheritance.specs.claims.Inherited.{name}
 use Rattle.object_reached.specs.declared.roles.Role.TheVariants.{Dependent, Master}
 use Rattle.object_reached.specs.Laws.{SpokenAreObjects}
 use Rattle.object_reader.specs.declared.block.Block.{Block}
-use Rattle.object_listing.specs.Readings.{period_named}
+use Rattle.object_listing.specs.claims.Readings.{period_named}
 use Rattle.object_listing.specs.ReadingLaws.{period-few}
-use Rattle.object_dependencies.specs.Entries.{AreDependencies, entries_at, entry_of, terms_at}
+use Rattle.object_dependencies.specs.claims.Entries.{AreDependencies, entries_at, entry_of, terms_at}
 use Rattle.object_dependencies.specs.Laws.{DependenciesFit, NoLoopIsLeft}
-use Rattle.object_dependencies.specs.Loops.{Depends}
-use Rattle.object_dependencies.specs.Pairs.{ArePairs, DependsAt, Pair}
+use Rattle.object_dependencies.specs.claims.Loops.{Depends}
+use Rattle.object_dependencies.specs.claims.Pairs.{ArePairs, DependsAt, Pair}
 
 -- ---- an entry comes of a pair of a block
 

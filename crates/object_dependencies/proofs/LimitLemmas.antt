@@ -2,12 +2,12 @@
 use Rattle.std.proofs.Common.{◌≡◌, ℕ, ◌+◌, ◌<◌, ◌≤◌, List, [], ◌∷◌, ◌++◌, length, Some, refl, sym, ap, subst, arith}
 use Rattle.std.specs.Prelude.{slice_get}
 use Rattle.std.specs.List.{AllZip, range_with_len, sum_by}
-use Rattle.due_model.specs.Limits.{max_dependencies}
+use Rattle.due_model.specs.claims.Limits.{max_dependencies}
 use Rattle.lemmas.proofs.Numbers.{below_more, sum-more}
 use Rattle.lemmas.proofs.Zips.{zip-more}
 use Rattle.object_reader.specs.declared.block.Block.{Block}
 use Rattle.object_dependencies.specs.Limits.{IsFirstOver, IsSoFar}
-use Rattle.object_dependencies.specs.Pairs.{ArePairs, Pair}
+use Rattle.object_dependencies.specs.claims.Pairs.{ArePairs, Pair}
 
 module _ (blocks : List Block) (lists : List (List ℕ)) where
   pub none-yet : IsSoFar blocks lists 0 [] 0

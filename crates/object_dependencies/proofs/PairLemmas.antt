@@ -8,7 +8,8 @@ use Rattle.std.proofs.Math.Nat.{suc-mul, zero-mul}
 use Rattle.std.proofs.lemmas.List.Kept.{AllPairs-cons, AllPairs-from_increasing}
 use Rattle.lemmas.proofs.Elements.{Contains-from_map}
 use Rattle.lemmas.proofs.Lists.{AllPairs-append, AllPairs-head, AllPairs-nil, AllPairs-tail}
-use Rattle.object_dependencies.specs.Pairs.{IsBefore, Pair, paired}
+use Rattle.object_dependencies.specs.claims.Pairs.{IsBefore, Pair}
+use Rattle.object_dependencies.specs.Pairs.{paired}
 use Rattle.object_dependencies.specs.PairLaws.{paired-cons, paired-from}
 
 row : List ℕ → ℕ → List Pair

@@ -1,13 +1,13 @@
 -- Laws of the dependencies that are made of blocks, of any blocks: what an accepted configuration asks of them.
 use Rattle.std.specs.Prelude.{◌≡◌, ℕ, ◌+◌, List, length, All}
-use Rattle.due_model.specs.Accepted.{DependencyFits, DependsOn, HasNoLoop}
+use Rattle.due_model.specs.claims.Accepted.{DependencyFits, DependsOn, HasNoLoop}
 use Rattle.due_model.specs.declared.config.Config.{Config}
-use Rattle.object_groups.specs.Objects.{names_in, objects_in}
+use Rattle.object_groups.specs.claims.Objects.{names_in, objects_in}
 use Rattle.object_reader.specs.declared.block.Block.{Block}
 use Rattle.object_reader.specs.declared.block.BlockKind.TheVariants.{Host, Service}
-use Rattle.object_services.specs.Limits.{AreHostLists}
-use Rattle.object_services.specs.Numbers.{pairs_of}
-use Rattle.object_dependencies.specs.Entries.{AreDependencies}
+use Rattle.object_services.specs.claims.Limits.{AreHostLists}
+use Rattle.object_services.specs.claims.Numbers.{pairs_of}
+use Rattle.object_dependencies.specs.claims.Entries.{AreDependencies}
 use Rattle.object_dependencies.specs.Loops.{HasNoDependencyLoop}
 
 -- The dependent and the master of a dependency are there, and so is its period; in a configuration of that many objects

@@ -1,6 +1,6 @@
+pub mod claims
 pub mod Pairs
 pub mod Limits
-pub mod Entries
 pub mod Loops
 pub mod Laws
 pub mod PairLaws

@@ -4,7 +4,8 @@ use Rattle.std.proofs.lemmas.List.Concat.{flat_map-cons}
 use Rattle.std.specs.Prelude.{Contains}
 use Rattle.std.proofs.lemmas.List.Elements.{Contains-append_cases, Contains-append_left, Contains-append_right}
 use Rattle.lemmas.proofs.Elements.{Contains-cases, Contains-from_map, Contains-here, Contains-later, Contains-map, Contains-none}
-use Rattle.object_dependencies.specs.Pairs.{Pair, paired}
+use Rattle.object_dependencies.specs.claims.Pairs.{Pair}
+use Rattle.object_dependencies.specs.Pairs.{paired}
 
 pub paired-cons : (d : ℕ) (ds ms : List ℕ) → paired (d ∷ ds) ms ≡ map (λ master. (d, master)) ms ++ paired ds ms
 paired-cons d ds ms = flat_map-cons (λ dependent. map (λ master. (dependent, master)) ms) d ds

@@ -1,13 +1,13 @@
 //! The pairs of dependents and masters of each block.
 
 ghost use Rattle.std.specs.Prelude.{◌≡◌, ◌+◌, ◌<◌, ◌^◌, length, IfOk};
-ghost use Rattle.object_dependencies.specs.Pairs.{ArePairs, kept_states};
+ghost use Rattle.object_dependencies.specs.claims.Pairs.{ArePairs, kept_states};
 ghost use Rattle.object_groups.specs.declared.groups.GroupKind.TheVariants.{HostGroups};
-ghost use Rattle.object_groups.specs.Objects.{names_in, objects_in};
+ghost use Rattle.object_groups.specs.claims.Objects.{names_in, objects_in};
 ghost use Rattle.object_reached.specs.declared.roles.Role.TheVariants.{Dependent, Master};
 ghost use Rattle.object_reader.specs.declared.block.BlockKind.TheVariants.{Host, Service};
-ghost use Rattle.object_services.specs.Limits.{AreHostLists};
-ghost use Rattle.object_services.specs.Numbers.{pairs_of};
+ghost use Rattle.object_services.specs.claims.Limits.{AreHostLists};
+ghost use Rattle.object_services.specs.claims.Numbers.{pairs_of};
 
 use crate::sides::Sides;
 use due_model::state::StateSet;

@@ -3,10 +3,11 @@
 ghost use Rattle.std.specs.Prelude.{◌≡◌, ◌≤◌, ◌<◌, ◌++◌, codes, length, map, sum_by};
 ghost use Rattle.std.specs.Prelude.{slice_index_or};
 ghost use Rattle.std.specs.Prelude.{IfOk, OnOk};
-ghost use Rattle.due_model.specs.Limits.{max_periods};
-ghost use Rattle.object_dependencies.specs.Entries.{AreDependencies, entries_at, entry_of};
-ghost use Rattle.object_dependencies.specs.Entries.{terms_at};
-ghost use Rattle.object_dependencies.specs.Pairs.{ArePairsBelow, paired};
+ghost use Rattle.due_model.specs.claims.Limits.{max_periods};
+ghost use Rattle.object_dependencies.specs.claims.Entries.{AreDependencies, entries_at, entry_of};
+ghost use Rattle.object_dependencies.specs.claims.Entries.{terms_at};
+ghost use Rattle.object_dependencies.specs.claims.Pairs.{ArePairsBelow};
+ghost use Rattle.object_dependencies.specs.Pairs.{paired};
 
 use crate::blocks::DependencyBlocks;
 use crate::pairs::DependencyPairs;

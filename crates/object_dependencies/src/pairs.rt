@@ -3,9 +3,10 @@
 ghost use Rattle.std.specs.Prelude.{◌≡◌, ◌≤◌, ◌<◌, ◌++◌, ◌∷◌, [], length};
 ghost use Rattle.std.specs.Prelude.{slice_index_or, sum_by};
 ghost use Rattle.std.specs.Prelude.{IfErr, IfOk, OnOk};
-ghost use Rattle.due_model.specs.Limits.{max_dependencies};
+ghost use Rattle.due_model.specs.claims.Limits.{max_dependencies};
 ghost use Rattle.object_dependencies.specs.Limits.{IsRefusal};
-ghost use Rattle.object_dependencies.specs.Pairs.{ArePairsBelow, paired};
+ghost use Rattle.object_dependencies.specs.claims.Pairs.{ArePairsBelow};
+ghost use Rattle.object_dependencies.specs.Pairs.{paired};
 ghost use Rattle.object_groups.specs.declared.groups.GroupKind.TheVariants.{HostGroups};
 
 use crate::blocks::DependencyBlocks;
@@ -37,7 +38,7 @@ pub struct DependencyPairs {
 
 impl Model for DependencyPairs {
     ghost use Rattle.std.specs.Prelude.{◌≡◌, List, length, sum_by};
-    ghost use Rattle.object_dependencies.specs.Pairs.{Pair};
+    ghost use Rattle.object_dependencies.specs.claims.Pairs.{Pair};
 
     ghost Value = { List (List Pair) };
 

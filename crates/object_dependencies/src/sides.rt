@@ -16,7 +16,8 @@ pub struct Sides {
 
 impl Model for Sides {
     ghost use Rattle.std.specs.Prelude.{List};
-    ghost use Rattle.object_dependencies.specs.Pairs.{Pair, paired};
+    ghost use Rattle.object_dependencies.specs.claims.Pairs.{Pair};
+    ghost use Rattle.object_dependencies.specs.Pairs.{paired};
 
     ghost Value = { List Pair };
 

@@ -7,8 +7,9 @@ use Rattle.std.proofs.lemmas.Option.{same_Some}
 use Rattle.lemmas.proofs.Chains.{Chain-map}
 use Rattle.lemmas.proofs.Elements.{Contains-from_map, Contains-map}
 use Rattle.graph.specs.declared.edges.Edge.{Edge}
-use Rattle.graph.specs.Chains.{Chain, Reaches}
-use Rattle.graph.specs.Edges.{HasEdges, IsWithin, Leads}
+use Rattle.graph.specs.claims.Chains.{Chain, Reaches}
+use Rattle.graph.specs.claims.Edges.{Leads}
+use Rattle.graph.specs.Edges.{HasEdges, IsWithin}
 use Rattle.graph.specs.Reach.{IsReached}
 use Rattle.graph_rules.specs.declared.rules.Rules.{Rules}
 use Rattle.graph_rules.specs.Rules.{AreWithin, Depends, edge, HasDependent, HasNoLoop, IsOfRule, LeadsTo}

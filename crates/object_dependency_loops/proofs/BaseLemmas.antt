@@ -5,8 +5,9 @@ use Rattle.std.proofs.lemmas.Bool.{cases_lt}
 use Rattle.std.proofs.lemmas.List.{get_or_past}
 use Rattle.std.proofs.lemmas.List.Elements.{All-from_get_or, Contains-append_cases, Contains-append_left, Contains-append_right, Contains-get_or}
 use Rattle.graph.specs.declared.edges.Edge.{Edge}
-use Rattle.graph.specs.Chains.{Chain, Reaches}
-use Rattle.graph.specs.Edges.{IsWithin, Leads}
+use Rattle.graph.specs.claims.Chains.{Chain, Reaches}
+use Rattle.graph.specs.claims.Edges.{Leads}
+use Rattle.graph.specs.Edges.{IsWithin}
 use Rattle.lemmas.proofs.Chains.{Reaches-join}
 use Rattle.lemmas.proofs.Elements.{Contains-cases, Contains-from_map, Contains-here, Contains-map, Contains-none}
 use Rattle.object_dependencies.specs.Pairs.{BlocksOf}
@@ -15,16 +16,17 @@ use Rattle.object_dependency_loops.specs.Base.{AreServiceNodes, base_edges, grap
 use Rattle.object_dependency_loops.proofs.ReachLemmas.{reaches-step}
 use Rattle.object_groups.specs.declared.groups.GroupKind.TheVariants.{HostGroups}
 use Rattle.object_groups.specs.declared.lists.Direction.TheVariants.{ToNames}
-use Rattle.object_groups.specs.Groups.{grouping}
+use Rattle.object_groups.specs.claims.Groups.{grouping}
 use Rattle.object_groups.specs.ListEdges.{edge, IsEdge, LeadOver}
-use Rattle.object_groups.specs.Members.{IsMember}
+use Rattle.object_groups.specs.claims.Members.{IsMember}
 use Rattle.object_groups.specs.Nodes.{LeadsToMembers}
-use Rattle.object_groups.specs.Objects.{names_in}
+use Rattle.object_groups.specs.claims.Objects.{names_in}
 use Rattle.object_groups.specs.ReachLaws.{list-edge, of-list}
 use Rattle.object_reader.specs.declared.block.BlockKind.TheVariants.{HostGroup, ServiceGroup}
-use Rattle.object_service_groups.specs.Groups.{grouping as service_grouping, LeadsToMembers as LeadsToServices}
+use Rattle.object_service_groups.specs.claims.Groups.{grouping as service_grouping}
+use Rattle.object_service_groups.specs.Groups.{LeadsToMembers as LeadsToServices}
 use Rattle.object_service_groups.specs.Nodes.{first_group}
-use Rattle.object_service_groups.specs.Members.{IsMember as IsServiceMember}
+use Rattle.object_service_groups.specs.claims.Members.{IsMember as IsServiceMember}
 
 -- ---- the edges of a graph whose nodes are moved
 

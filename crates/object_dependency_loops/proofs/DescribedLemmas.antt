@@ -5,7 +5,7 @@ use Rattle.std.specs.Map.{lookup}
 use Rattle.std.proofs.lemmas.Bool.{and_parts}
 use Rattle.std.proofs.lemmas.List.Elements.{All-contains, All-from_get_or, Contains-append_cases, Contains-append_left, Contains-append_right, Contains-get_or}
 use Rattle.graph.specs.declared.edges.Edge.{Edge}
-use Rattle.graph.specs.Chains.{Reaches}
+use Rattle.graph.specs.claims.Chains.{Reaches}
 use Rattle.graph.specs.Edges.{IsWithin}
 use Rattle.graph_rules.specs.Rules.{IsOfRule}
 use Rattle.lemmas.proofs.Edges.{edges-more}
@@ -14,15 +14,15 @@ use Rattle.object_dependencies.specs.Pairs.{BlocksOf}
 use Rattle.object_groups.specs.declared.lists.Direction.TheVariants.{ToNames}
 use Rattle.object_groups.specs.ListEdges.{between, edge, IsEdge, LeadOver, list_edges}
 use Rattle.object_groups.specs.NodeLaws.{edge-from, edge-to}
-use Rattle.object_groups.specs.Objects.{names_in}
+use Rattle.object_groups.specs.claims.Objects.{names_in}
 use Rattle.object_groups.specs.ReachLaws.{lead-none, list-edge}
 use Rattle.object_listing.specs.Listing.{Adds}
 use Rattle.object_reached.specs.Alike.{HaveLists, ListPlaces, places_eq}
 use Rattle.object_reached.specs.AlikeLaws.{listed-alike}
-use Rattle.object_reached.specs.Listed.{IsDescribed, is_named, ServiceDirectives}
+use Rattle.object_reached.specs.claims.Listed.{IsDescribed, is_named, ServiceDirectives}
 use Rattle.object_reader.specs.declared.block.Block.{Block}
 use Rattle.object_reader.specs.declared.block.BlockKind.TheVariants.{Host, Service}
-use Rattle.object_services.specs.Numbers.{Pair, pairs_of}
+use Rattle.object_services.specs.claims.Numbers.{Pair, pairs_of}
 use Rattle.object_dependency_loops.specs.Base.{host_count, service_count}
 use Rattle.object_dependency_loops.specs.Described.{AreFound, Describes, IsNodeOf}
 use Rattle.object_dependency_loops.specs.Speech.{AddsSpeech, AreLinked, Speaks}

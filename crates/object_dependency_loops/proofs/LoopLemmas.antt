@@ -6,8 +6,10 @@ use Rattle.graph_rules.specs.declared.rules.Rules.{Rules}
 use Rattle.graph_rules.specs.Rules as rules
 use Rattle.lemmas.proofs.Chains.{Chain-map}
 use Rattle.lemmas.proofs.Elements.{Contains-none}
-use Rattle.object_dependencies.specs.Loops.{Depends, HasNoDependencyLoop, IsFirstLooped, IsLoopedAt}
-use Rattle.object_dependencies.specs.Pairs.{BlocksOf, DependsAt}
+use Rattle.object_dependencies.specs.claims.Loops.{Depends, IsLoopedAt}
+use Rattle.object_dependencies.specs.Loops.{HasNoDependencyLoop, IsFirstLooped}
+use Rattle.object_dependencies.specs.claims.Pairs.{DependsAt}
+use Rattle.object_dependencies.specs.Pairs.{BlocksOf}
 use Rattle.object_dependency_loops.specs.Places.{AreRulesOf}
 
 module _ (b : BlocksOf) (r : Rules) (are : AreRulesOf b r) where

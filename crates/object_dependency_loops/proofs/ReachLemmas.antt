@@ -5,7 +5,7 @@ use Rattle.std.specs.List.{range_with_len}
 use Rattle.std.proofs.lemmas.List.{map-append, take_more}
 use Rattle.std.proofs.lemmas.List.Elements.{All-contains, Contains-append_cases, Contains-append_left, Contains-append_right}
 use Rattle.graph.specs.declared.edges.Edge.{Edge}
-use Rattle.graph.specs.Chains.{Chain, Reaches}
+use Rattle.graph.specs.claims.Chains.{Chain, Reaches}
 use Rattle.graph.specs.Edges.{IsWithin}
 use Rattle.lemmas.proofs.Chains.{Chain-map}
 use Rattle.lemmas.proofs.Numbers.{below_more}

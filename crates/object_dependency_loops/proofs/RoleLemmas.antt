@@ -8,32 +8,33 @@ use Rattle.std.proofs.lemmas.List.Elements.{All-contains, All-from_get_or, Conta
 use Rattle.std.proofs.lemmas.Option.{slice_get_read}
 use Rattle.due_model.specs.declared.state.StateSet.{StateSet}
 use Rattle.graph.specs.declared.edges.Edge.{Edge}
-use Rattle.graph.specs.Chains.{Reaches}
+use Rattle.graph.specs.claims.Chains.{Reaches}
 use Rattle.graph_rules.specs.Rules.{IsOfRule}
 use Rattle.graph.specs.Edges.{IsWithin}
 use Rattle.lemmas.proofs.Numbers.{below_more}
 use Rattle.lemmas.proofs.Elements.{Contains-filter, Contains-from_filter, Contains-from_map, Contains-map, Contains-none, Contains-range}
-use Rattle.object_dependencies.specs.Pairs.{BlocksOf, IsKept, kept_states}
+use Rattle.object_dependencies.specs.claims.Pairs.{IsKept, kept_states}
+use Rattle.object_dependencies.specs.Pairs.{BlocksOf}
 use Rattle.object_groups.specs.declared.groups.GroupKind.TheVariants.{HostGroups}
-use Rattle.object_groups.specs.Groups.{grouping}
+use Rattle.object_groups.specs.claims.Groups.{grouping}
 use Rattle.object_groups.specs.ListEdges.{edge, IsEdge, LeadOver, nodes_of}
-use Rattle.object_groups.specs.Members.{IsMember}
-use Rattle.object_groups.specs.Names.{Lists, numbers_of}
+use Rattle.object_groups.specs.claims.Members.{IsMember}
+use Rattle.object_groups.specs.claims.Names.{Lists, numbers_of}
 use Rattle.object_groups.specs.NodeLaws.{from-node, FromNode, to-node}
 use Rattle.object_groups.specs.ObjectLaws.{listed-within, numbers-within, object-at}
-use Rattle.object_groups.specs.Objects.{is_object, is_object_at, list_at, names_in}
+use Rattle.object_groups.specs.claims.Objects.{is_object, is_object_at, list_at, names_in}
 use Rattle.object_groups.specs.ReachLaws.{lead-none}
 use Rattle.object_inheritance.specs.Columns.{Column}
 use Rattle.object_listing.specs.Laws.{ListedAreObjects}
-use Rattle.object_listing.specs.Listing.{IsListed}
+use Rattle.object_listing.specs.claims.Listing.{IsListed}
 use Rattle.object_reached.specs.declared.roles.Role.{Role}
-use Rattle.object_reached.specs.Listed.{of_hosts, ServiceDirectives}
-use Rattle.object_reached.specs.Reached.{SpeaksOf}
-use Rattle.object_reached.specs.Roles.{directives_of, host_kind, service_kind}
+use Rattle.object_reached.specs.claims.Listed.{of_hosts, ServiceDirectives}
+use Rattle.object_reached.specs.claims.Reached.{SpeaksOf}
+use Rattle.object_reached.specs.claims.Roles.{directives_of, host_kind, service_kind}
 use Rattle.object_reader.specs.declared.block.Block.{Block}
 use Rattle.object_reader.specs.declared.block.BlockKind.{BlockKind}
 use Rattle.object_reader.specs.declared.block.BlockKind.TheVariants.{Host, HostDependency, HostGroup, ServiceDependency, ServiceGroup}
-use Rattle.object_listing.specs.Readings.{own_states}
+use Rattle.object_listing.specs.claims.Readings.{own_states}
 use Rattle.object_service_groups.specs.Laws.{MembersAreServices}
 use Rattle.object_values.specs.declared.options.CriteriaKind.TheVariants.{OfHosts, OfServices}
 use Rattle.object_dependency_loops.specs.declared.base.Firsts.{Firsts}

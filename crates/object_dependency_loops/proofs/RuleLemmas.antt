@@ -6,19 +6,20 @@ use Rattle.std.proofs.lemmas.List.Elements.{All-from_get_or, Contains-get_or}
 use Rattle.std.proofs.lemmas.List.FromFn.{get_or-range_with_len, length-range_with_len}
 use Rattle.std.proofs.lemmas.Option.{get_or_from_slice_get, slice_get-get_or}
 use Rattle.graph.specs.declared.edges.Edge.{Edge}
-use Rattle.graph.specs.Chains.{Reaches}
+use Rattle.graph.specs.claims.Chains.{Reaches}
 use Rattle.graph.specs.Edges.{IsWithin}
 use Rattle.graph_rules.specs.declared.rules.Rules.{Rules}
 use Rattle.graph_rules.specs.Rules.{edge, HasDependent, HasMaster, IsOfRule}
 use Rattle.lemmas.proofs.Elements.{Contains-from_range, Contains-none}
-use Rattle.object_dependencies.specs.Pairs.{BlocksOf, IsKept}
+use Rattle.object_dependencies.specs.claims.Pairs.{IsKept}
+use Rattle.object_dependencies.specs.Pairs.{BlocksOf}
 use Rattle.object_groups.specs.ListEdges.{IsEdge}
-use Rattle.object_groups.specs.Objects.{is_object_at}
+use Rattle.object_groups.specs.claims.Objects.{is_object_at}
 use Rattle.object_reached.specs.declared.roles.Role.{Role}
 use Rattle.object_reached.specs.declared.roles.Role.TheVariants.{Dependent, Master}
 use Rattle.object_reached.specs.Laws.{SpokenAreObjects}
-use Rattle.object_reached.specs.Reached.{SpeaksOf}
-use Rattle.object_reached.specs.Roles.{host_kind, service_kind}
+use Rattle.object_reached.specs.claims.Reached.{SpeaksOf}
+use Rattle.object_reached.specs.claims.Roles.{host_kind, service_kind}
 use Rattle.object_dependency_loops.specs.Base.{host_count, service_count}
 use Rattle.object_dependency_loops.specs.Places.{AreRulesOf, kept_in, SpeakAs}
 use Rattle.object_dependency_loops.proofs.RoleLemmas.{place-kept}

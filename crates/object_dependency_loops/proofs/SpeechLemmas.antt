@@ -5,16 +5,16 @@ use Rattle.std.specs.List.{range_with_len}
 use Rattle.std.proofs.lemmas.List.{get_or_default, take_more}
 use Rattle.std.proofs.lemmas.List.Elements.{All-contains, All-from_get_or, Contains-append_cases, Contains-append_left, Contains-append_right, Contains-get_or}
 use Rattle.graph.specs.declared.edges.Edge.{Edge}
-use Rattle.graph.specs.Chains.{Reaches}
+use Rattle.graph.specs.claims.Chains.{Reaches}
 use Rattle.graph_rules.specs.Rules.{IsOfRule}
 use Rattle.lemmas.proofs.Elements.{Contains-from_map, Contains-from_range, Contains-map, Contains-none, Contains-range}
 use Rattle.object_groups.specs.declared.lists.Direction.TheVariants.{ToNames}
 use Rattle.object_groups.specs.declared.lists.ListNodes.{ListNodes}
 use Rattle.object_groups.specs.ListEdges.{edge, edges_at, IsEdge, LeadOver, list_edges, nodes_of}
-use Rattle.object_groups.specs.Names.{is_all, numbers_of}
+use Rattle.object_groups.specs.claims.Names.{is_all, numbers_of}
 use Rattle.object_groups.specs.NodeLaws.{edge-from, edge-to, from-node}
 use Rattle.object_groups.specs.ObjectLaws.{numbers-within}
-use Rattle.object_groups.specs.Objects.{list_at}
+use Rattle.object_groups.specs.claims.Objects.{list_at}
 use Rattle.object_groups.specs.ReachLaws.{lead-none}
 use Rattle.object_reader.specs.declared.block.Block.{Block}
 use Rattle.object_dependency_loops.specs.Speech.{AddsSpeech, AreLinked, ByList, links_to, Speaks}

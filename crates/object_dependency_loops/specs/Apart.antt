@@ -1,7 +1,7 @@
 -- Rules of which no object is both a dependent and a master. Their nodes stand in a graph with two more.
 use Rattle.std.specs.Prelude.{◌≡◌, ℕ, ◌+◌, true, Bool, List, ◌++◌, length, map, Contains, slice_index_or, false}
 use Rattle.graph.specs.declared.edges.Edge.{Edge}
-use Rattle.graph.specs.Edges.{Leads}
+use Rattle.graph.specs.claims.Edges.{Leads}
 use Rattle.graph_rules.specs.declared.rules.Rules.{Rules}
 use Rattle.graph_rules.specs.Rules.{edge, LeadsTo}
 

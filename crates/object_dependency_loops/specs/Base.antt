@@ -2,21 +2,22 @@
 -- where each host leads to its object; and those of the graph of service groups, where each service does.
 use Rattle.std.specs.Prelude.{◌≡◌, ℕ, Bool, ◌+◌, ◌<◌, ◌≤◌, ◌↔◌, true, List, [], ◌∷◌, ◌++◌, length, map, All, slice_index_or}
 use Rattle.graph.specs.declared.edges.Edge.{Edge}
-use Rattle.graph.specs.Chains.{Reaches}
+use Rattle.graph.specs.claims.Chains.{Reaches}
 use Rattle.graph.specs.Edges.{IsWithin}
 use Rattle.object_dependencies.specs.Pairs.{BlocksOf}
 use Rattle.object_dependency_loops.specs.declared.base.Firsts.{Firsts}
 use Rattle.object_groups.specs.declared.groups.GroupKind.TheVariants.{HostGroups}
 use Rattle.object_groups.specs.declared.lists.Direction.TheVariants.{ToNames}
-use Rattle.object_groups.specs.Groups.{grouping}
+use Rattle.object_groups.specs.claims.Groups.{grouping}
 use Rattle.object_groups.specs.ListEdges.{IsEdge, list_edges}
-use Rattle.object_groups.specs.Members.{IsMember}
-use Rattle.object_groups.specs.Objects.{names_in}
+use Rattle.object_groups.specs.claims.Members.{IsMember}
+use Rattle.object_groups.specs.claims.Objects.{names_in}
 use Rattle.object_reader.specs.declared.block.BlockKind.TheVariants.{Host, HostGroup, Service, ServiceGroup}
-use Rattle.object_service_groups.specs.Groups.{grouping as service_grouping, LeadsToMembers as LeadsToServices}
-use Rattle.object_service_groups.specs.Members.{IsMember as IsServiceMember}
+use Rattle.object_service_groups.specs.claims.Groups.{grouping as service_grouping}
+use Rattle.object_service_groups.specs.Groups.{LeadsToMembers as LeadsToServices}
+use Rattle.object_service_groups.specs.claims.Members.{IsMember as IsServiceMember}
 use Rattle.object_service_groups.specs.Nodes.{first_group}
-use Rattle.object_services.specs.Numbers.{pairs_of}
+use Rattle.object_services.specs.claims.Numbers.{pairs_of}
 
 -- how many hosts and services there are
 abbrev pub host_count : BlocksOf → ℕ

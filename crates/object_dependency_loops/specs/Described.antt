@@ -3,15 +3,15 @@
 use Rattle.std.specs.Prelude.{◌≡◌, ℕ, ◌+◌, ◌<◌, ◌↔◌, List, [], IfSome}
 use Rattle.std.specs.Map.{lookup}
 use Rattle.graph.specs.declared.edges.Edge.{Edge}
-use Rattle.graph.specs.Chains.{Reaches}
+use Rattle.graph.specs.claims.Chains.{Reaches}
 use Rattle.object_dependencies.specs.Pairs.{BlocksOf}
 use Rattle.object_groups.specs.ListEdges.{IsEdge}
-use Rattle.object_groups.specs.Objects.{list_at, names_in}
+use Rattle.object_groups.specs.claims.Objects.{list_at, names_in}
 use Rattle.object_reached.specs.Alike.{HaveLists, ListPlaces, places_eq}
-use Rattle.object_reached.specs.Listed.{IsDescribed, IsGrouped, ServiceDirectives}
+use Rattle.object_reached.specs.claims.Listed.{IsDescribed, IsGrouped, ServiceDirectives}
 use Rattle.object_reader.specs.declared.block.Block.{Block}
 use Rattle.object_reader.specs.declared.block.BlockKind.TheVariants.{Service}
-use Rattle.object_services.specs.Numbers.{pairs_of}
+use Rattle.object_services.specs.claims.Numbers.{pairs_of}
 use Rattle.object_dependency_loops.specs.Base.{host_count}
 
 -- the block at the place lists the service of that number by hosts and descriptions

@@ -4,11 +4,12 @@ use Rattle.std.specs.List.{range_with_len}
 use Rattle.graph.specs.declared.edges.Edge.{Edge}
 use Rattle.graph_rules.specs.declared.rules.Rules.{Rules}
 use Rattle.graph_rules.specs.Rules.{AreWithin, HasDependent, HasMaster}
-use Rattle.object_dependencies.specs.Pairs.{BlocksOf, IsKept, kept_states}
-use Rattle.object_groups.specs.Objects.{is_object_at}
+use Rattle.object_dependencies.specs.claims.Pairs.{IsKept, kept_states}
+use Rattle.object_dependencies.specs.Pairs.{BlocksOf}
+use Rattle.object_groups.specs.claims.Objects.{is_object_at}
 use Rattle.object_reached.specs.declared.roles.Role.{Role}
 use Rattle.object_reached.specs.declared.roles.Role.TheVariants.{Dependent, Master}
-use Rattle.object_reached.specs.Reached.{SpeaksOf}
+use Rattle.object_reached.specs.claims.Reached.{SpeaksOf}
 use Rattle.object_reader.specs.declared.block.Block.{Block}
 use Rattle.object_reader.specs.declared.block.BlockKind.{BlockKind}
 use Rattle.object_dependency_loops.specs.Speech.{Speaks}

@@ -2,11 +2,11 @@
 use Rattle.std.specs.Prelude.{◌≡◌, ℕ, ◌+◌, ◌<◌, ◌≤◌, ◌↔◌, ◌⊎◌, List, length, map, All, Contains, Option, slice_index_or}
 use Rattle.std.specs.List.{range_with_len}
 use Rattle.graph.specs.declared.edges.Edge.{Edge}
-use Rattle.graph.specs.Chains.{Reaches}
+use Rattle.graph.specs.claims.Chains.{Reaches}
 use Rattle.graph.specs.Edges.{IsWithin}
 use Rattle.graph_rules.specs.Rules.{IsOfRule}
 use Rattle.object_groups.specs.ListEdges.{edge, IsEdge, LeadOver, nodes_of}
-use Rattle.object_groups.specs.Objects.{list_at}
+use Rattle.object_groups.specs.claims.Objects.{list_at}
 use Rattle.object_reader.specs.declared.block.Block.{Block}
 
 -- A link leads from the block at the place to a node from which a chain of edges leads to the object.

@@ -9,9 +9,9 @@ ghost use Rattle.object_dependency_loops.specs.Places.{kept_in, SpeakAs};
 ghost use Rattle.object_dependency_loops.specs.Speech.{AddsSpeech, AreLinked};
 ghost use Rattle.object_groups.specs.declared.groups.GroupKind.TheVariants.{HostGroups};
 ghost use Rattle.object_groups.specs.ListEdges.{LeadOver};
-ghost use Rattle.object_listing.specs.Listing.{IsListed};
-ghost use Rattle.object_reached.specs.Listed.{of_hosts};
-ghost use Rattle.object_reached.specs.Roles.{directives_of, host_kind, service_kind};
+ghost use Rattle.object_listing.specs.claims.Listing.{IsListed};
+ghost use Rattle.object_reached.specs.claims.Listed.{of_hosts};
+ghost use Rattle.object_reached.specs.claims.Roles.{directives_of, host_kind, service_kind};
 
 use crate::base::Firsts;
 use crate::described::push_described;

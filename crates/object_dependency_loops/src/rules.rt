@@ -6,7 +6,7 @@ ghost use Rattle.object_dependency_loops.specs.Described.{ListsNoGroup};
 ghost use Rattle.object_dependency_loops.specs.Places.{AreRulesOf};
 ghost use Rattle.object_groups.specs.declared.groups.GroupKind.TheVariants.{HostGroups};
 ghost use Rattle.object_reached.specs.declared.roles.Role.TheVariants.{Dependent, Master};
-ghost use Rattle.object_reached.specs.Roles.{directives_of};
+ghost use Rattle.object_reached.specs.claims.Roles.{directives_of};
 
 use crate::base::base_of;
 use crate::places::kept_places;

@@ -2,11 +2,12 @@
 use Rattle.std.proofs.Common.{◌≡◌, ℕ, ◌+◌, ◌<◌, ◌≤◌, List, [], ◌∷◌, ◌++◌, length, Some, refl, sym, ap, subst, arith}
 use Rattle.std.specs.Prelude.{slice_get}
 use Rattle.std.specs.List.{AllZip, range_with_len, sum_by}
-use Rattle.due_model.specs.Limits.{max_escalations}
+use Rattle.due_model.specs.claims.Limits.{max_escalations}
 use Rattle.lemmas.proofs.Numbers.{below_more, sum-more}
 use Rattle.lemmas.proofs.Zips.{zip-more}
-use Rattle.object_escalations.specs.Escalated.{IsFirstOver, IsKept, IsRefusal, IsSoFar, IsTooMany, SpeaksOf}
-use Rattle.object_listing.specs.Listing.{AreThose}
+use Rattle.object_escalations.specs.claims.Escalated.{SpeaksOf}
+use Rattle.object_escalations.specs.Escalated.{IsFirstOver, IsKept, IsRefusal, IsSoFar, IsTooMany}
+use Rattle.object_listing.specs.claims.Listing.{AreThose}
 use Rattle.object_reader.specs.declared.block.Block.{Block}
 use Rattle.object_services.specs.declared.services.LimitFault.{LimitFault}
 use Rattle.object_services.specs.declared.services.LimitFault.TheVariants.{TooMany, NoMemory}

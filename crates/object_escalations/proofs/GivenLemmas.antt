@@ -10,15 +10,16 @@ use Rattle.due_model.specs.declared.config.Object.{Object}
 use Rattle.due_model.specs.declared.config.PeriodId.{PeriodId}
 use Rattle.lemmas.proofs.Numbers.{flat_range_more}
 use Rattle.lemmas.proofs.Zips.{zip-append, zip-map}
-use Rattle.object_escalations.specs.Entries.{AddsEntries, AreContactsOf, AreEntriesOf, AreTold, ComesFrom, IsEscalationOf, option_kind, Origin, origins_at, origins_below}
+use Rattle.object_escalations.specs.claims.Entries.{AreContactsOf, AreEntriesOf, AreTold, ComesFrom, IsEscalationOf, option_kind, Origin, origins_at, origins_below}
+use Rattle.object_escalations.specs.Entries.{AddsEntries}
 use Rattle.object_escalations.specs.Given.{AddsTaken, IsGiven, IsTaken, IsTakenOf, list_kind}
 use Rattle.object_escalations.specs.declared.given.Given.{Given}
-use Rattle.object_groups.specs.Objects.{is_object}
+use Rattle.object_groups.specs.claims.Objects.{is_object}
 use Rattle.object_inheritance.specs.Columns.{Column}
-use Rattle.object_listing.specs.Listing.{AreThose, contact_directives, gives_neither, IsListed}
+use Rattle.object_listing.specs.claims.Listing.{AreThose, contact_directives, gives_neither, IsListed}
 use Rattle.object_reader.specs.declared.block.Block.{Block}
 use Rattle.object_reader.specs.declared.block.BlockKind.TheVariants.{HostEscalation}
-use Rattle.object_listing.specs.Readings.{letters_at}
+use Rattle.object_listing.specs.claims.Readings.{letters_at}
 use Rattle.object_values.specs.declared.options.OptionKind.{OptionKind}
 use Rattle.object_values.specs.declared.options.OptionKind.TheVariants as lists
 

@@ -8,12 +8,12 @@ use Rattle.std.proofs.lemmas.List.Elements.{All-cons, All-from_get_or, All-nil, 
 use Rattle.std.proofs.lemmas.Slice.Zip.{AllZip-long}
 use Rattle.lemmas.proofs.Numbers.{all-count, below_more, sum-more}
 use Rattle.lemmas.proofs.Zips.{without-last}
-use Rattle.object_escalations.specs.Entries.{ComesFrom, Origin, origins_at, origins_below}
-use Rattle.object_escalations.specs.Escalated.{AreEscalated, GiveEscalations, PassesLimit, SpeaksOf}
+use Rattle.object_escalations.specs.claims.Entries.{ComesFrom, Origin, origins_at, origins_below}
+use Rattle.object_escalations.specs.claims.Escalated.{AreEscalated, GiveEscalations, PassesLimit, SpeaksOf}
 use Rattle.object_escalations.specs.Laws.{CountIsTheSum, EscalatedAreObjects, OneForEach, OnePlacePasses, WithinPassesNowhere}
-use Rattle.object_groups.specs.Objects.{names_in, objects_in}
+use Rattle.object_groups.specs.claims.Objects.{names_in, objects_in}
 use Rattle.object_groups.specs.ObjectLaws.{names-long}
-use Rattle.object_listing.specs.Listing.{AreThose}
+use Rattle.object_listing.specs.claims.Listing.{AreThose}
 use Rattle.object_listing.specs.ListingLaws.{those-one}
 use Rattle.object_reached.specs.declared.roles.Role.TheVariants.{Escalated}
 use Rattle.object_reached.specs.Laws.{SpokenAreObjects}

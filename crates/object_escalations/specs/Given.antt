@@ -2,15 +2,15 @@
 -- "Notification Escalations").
 use Rattle.std.specs.Prelude.{◌≡◌, ℕ, List, ◌++◌, map, codes, unwrap_or, Some, slice_get, if◌then◌else◌}
 use Rattle.std.specs.List.{AllZip}
-use Rattle.due_model.specs.Objects.{object_id}
+use Rattle.due_model.specs.claims.Objects.{object_id}
 use Rattle.due_model.specs.declared.config.ContactId.{ContactId}
 use Rattle.due_model.specs.declared.config.Escalation.{Escalation}
 use Rattle.due_model.specs.declared.config.Object.{Object}
-use Rattle.object_groups.specs.Objects.{is_object, names_in}
-use Rattle.object_listing.specs.Listing.{AreThose, contact_directives, gives_neither, IsListed}
+use Rattle.object_groups.specs.claims.Objects.{is_object, names_in}
+use Rattle.object_listing.specs.claims.Listing.{AreThose, contact_directives, gives_neither, IsListed}
 use Rattle.object_reader.specs.declared.block.Block.{Block}
 use Rattle.object_reader.specs.declared.block.BlockKind.TheVariants.{HostEscalation, TimePeriod}
-use Rattle.object_listing.specs.Readings.{letters_at, number_at, own_number, own_period}
+use Rattle.object_listing.specs.claims.Readings.{letters_at, number_at, own_number, own_period}
 use Rattle.object_values.specs.declared.options.OptionKind.{OptionKind}
 use Rattle.object_values.specs.declared.options.OptionKind.TheVariants as lists
 use Rattle.object_escalations.specs.declared.given.Filters.{Filters}

@@ -1,11 +1,11 @@
 -- Laws of escalations, of any blocks.
 use Rattle.std.specs.Prelude.{◌≡◌, ℕ, ◌+◌, ◌<◌, ◌≤◌, List, length, sum_by, All}
-use Rattle.due_model.specs.Limits.{max_escalations}
+use Rattle.due_model.specs.claims.Limits.{max_escalations}
 use Rattle.due_model.specs.declared.config.Escalation.{Escalation}
 use Rattle.due_model.specs.declared.config.Object.{Object}
-use Rattle.object_escalations.specs.Entries.{AreEntriesOf}
-use Rattle.object_escalations.specs.Escalated.{AreEscalated, GiveEscalations, PassesLimit}
-use Rattle.object_groups.specs.Objects.{objects_in}
+use Rattle.object_escalations.specs.claims.Entries.{AreEntriesOf}
+use Rattle.object_escalations.specs.claims.Escalated.{AreEscalated, GiveEscalations, PassesLimit}
+use Rattle.object_groups.specs.claims.Objects.{objects_in}
 use Rattle.object_reader.specs.declared.block.Block.{Block}
 use Rattle.object_reader.specs.declared.block.BlockKind.TheVariants.{Host}
 

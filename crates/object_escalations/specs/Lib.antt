@@ -1,3 +1,4 @@
+pub mod claims
 pub mod Escalated
 pub mod Given
 pub mod Entries

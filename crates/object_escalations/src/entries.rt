@@ -1,9 +1,10 @@
 //! The escalations that blocks give.
 
 ghost use Rattle.std.specs.Prelude.{◌≡◌, ◌<◌, ◌≤◌, length, slice_get, All, IfOk, OnOk, Some};
-ghost use Rattle.due_model.specs.Limits.{max_objects};
-ghost use Rattle.object_escalations.specs.Entries.{AddsEntries, AreEntriesOf, AskForAll};
-ghost use Rattle.object_escalations.specs.Entries.{origins_at};
+ghost use Rattle.due_model.specs.claims.Limits.{max_objects};
+ghost use Rattle.object_escalations.specs.claims.Entries.{AreEntriesOf};
+ghost use Rattle.object_escalations.specs.Entries.{AddsEntries, AskForAll};
+ghost use Rattle.object_escalations.specs.claims.Entries.{origins_at};
 ghost use Rattle.object_escalations.specs.Given.{AddsTaken, contacts_of, IsTaken, list_kind};
 ghost use Rattle.object_listing.specs.Contacts.{IsAsked};
 ghost use Rattle.object_listing.specs.Periods.{ArePeriods};

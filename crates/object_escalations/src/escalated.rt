@@ -4,14 +4,15 @@ ghost use Rattle.std.specs.Prelude.{◌≡◌, ◌+◌, ◌<◌, ◌≤◌, ◌^
 ghost use Rattle.std.specs.Prelude.{length, map};
 ghost use Rattle.std.specs.Prelude.{slice_index_or, sum_by};
 ghost use Rattle.std.specs.Prelude.{IfErr, IfOk, OnOk};
-ghost use Rattle.due_model.specs.Limits.{max_escalations};
-ghost use Rattle.object_escalations.specs.Escalated.{AreEscalated, IsKept, IsRefusal, IsTooMany};
+ghost use Rattle.due_model.specs.claims.Limits.{max_escalations};
+ghost use Rattle.object_escalations.specs.claims.Escalated.{AreEscalated};
+ghost use Rattle.object_escalations.specs.Escalated.{IsKept, IsRefusal, IsTooMany};
 ghost use Rattle.object_groups.specs.declared.groups.GroupKind.TheVariants.{HostGroups};
-ghost use Rattle.object_groups.specs.Objects.{names_in, objects_in};
+ghost use Rattle.object_groups.specs.claims.Objects.{names_in, objects_in};
 ghost use Rattle.object_reached.specs.declared.roles.Role.TheVariants.{Escalated};
 ghost use Rattle.object_reader.specs.declared.block.BlockKind.TheVariants.{Host, Service};
-ghost use Rattle.object_services.specs.Limits.{AreHostLists};
-ghost use Rattle.object_services.specs.Numbers.{pairs_of};
+ghost use Rattle.object_services.specs.claims.Limits.{AreHostLists};
+ghost use Rattle.object_services.specs.claims.Numbers.{pairs_of};
 
 use due_model::limits::MAX_ESCALATIONS;
 use object_groups::groups::Groups;

@@ -10,17 +10,18 @@ use Rattle.std.proofs.lemmas.List.Elements.{All-contains, Contains-append_cases}
 use Rattle.std.proofs.lemmas.Slice.Eq.{bytes_eq-Decides}
 use Rattle.lemmas.proofs.Elements.{at-Contains, Contains-cases, Contains-flat_map, Contains-here, Contains-later, Contains-map, Contains-none}
 use Rattle.object_faults.specs.Columns.{date_at, date_by, date_fault}
-use Rattle.object_faults.specs.Dated.{directive_names, has_bad_line, has_line, has_other_line, is_bad_line, is_other_line}
+use Rattle.object_faults.specs.claims.Dated.{directive_names, has_bad_line, has_line, has_other_line, is_bad_line, is_other_line}
 use Rattle.object_faults.specs.declared.fault.ValueFault.{ValueFault}
-use Rattle.object_faults.specs.Faults.{is_registered}
-use Rattle.object_inheritance.specs.DatedLines.{AreLines, dated_line, named}
+use Rattle.object_faults.specs.claims.Faults.{is_registered}
+use Rattle.object_inheritance.specs.claims.DatedLines.{AreLines, dated_line}
+use Rattle.object_inheritance.specs.DatedLines.{named}
 use Rattle.object_inheritance.specs.declared.dated_lines.Line.{Line}
-use Rattle.object_inheritance.specs.Kinds.{is_period}
-use Rattle.object_inheritance.specs.Inherited.{first_given, given, given_along, own, sources, value}
+use Rattle.object_inheritance.specs.claims.Kinds.{is_period}
+use Rattle.object_inheritance.specs.claims.Inherited.{first_given, given, given_along, own, sources, value}
 use Rattle.object_reader.specs.declared.block.Block.{Block}
 use Rattle.object_reader.specs.declared.block.Directive.{Directive}
-use Rattle.object_values.specs.Ranges.{is_dated}
-use Rattle.object_values.specs.Values.{value_in}
+use Rattle.object_values.specs.claims.Ranges.{is_dated}
+use Rattle.object_values.specs.claims.Values.{value_in}
 
 same-name : (one other : List ℕ) → bytes_eq one other ≡ true → one ≡ other
 same-name one other is = (bytes_eq-Decides one other).0 is

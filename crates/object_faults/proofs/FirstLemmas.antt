@@ -10,7 +10,7 @@ use Rattle.object_faults.specs.declared.column.Column.{Column}
 use Rattle.object_faults.specs.declared.fault.ValueFault.{ValueFault}
 use Rattle.object_faults.specs.declared.first.Found.{Found}
 use Rattle.object_faults.specs.declared.needs.Side.{Side}
-use Rattle.object_faults.specs.Faults.{is_registered}
+use Rattle.object_faults.specs.claims.Faults.{is_registered}
 use Rattle.object_faults.specs.Needs.{NeedsOf}
 
 or-none : (fault other : Option ValueFault) → fault ≡ None → option_or fault other ≡ other

@@ -6,7 +6,7 @@ use Rattle.std.proofs.lemmas.Bool.{cases_eq, false≢true}
 use Rattle.std.proofs.lemmas.List.{get_or-set_other, get_or-set_same}
 use Rattle.object_reader.specs.declared.block.Block.{Block}
 use Rattle.object_faults.specs.Columns.{check_of, column_fault, registered_fault}
-use Rattle.object_faults.specs.Faults.{is_registered}
+use Rattle.object_faults.specs.claims.Faults.{is_registered}
 use Rattle.object_faults.specs.Known.{AreKnown}
 use Rattle.object_faults.specs.declared.column.Column.{Column}
 use Rattle.object_faults.specs.declared.first.Judged.{Judged}

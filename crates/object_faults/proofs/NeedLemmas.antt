@@ -3,7 +3,7 @@ use Rattle.std.proofs.Common.{◌≡◌, ℕ, Bool, List, ap, sym, ◌∙◌}
 use Rattle.object_inheritance.specs.Columns.{Column}
 use Rattle.object_reader.specs.declared.block.Block.{Block}
 use Rattle.object_faults.specs.declared.needs.Side.{Side}
-use Rattle.object_faults.specs.Faults.{is_listed}
+use Rattle.object_faults.specs.claims.Faults.{is_listed}
 use Rattle.object_faults.specs.Needs.{NeedsOf}
 
 -- what the column says of a list is what the blocks have for it

@@ -5,7 +5,7 @@ use Rattle.std.proofs.lemmas.Bool.{ltb-false, ltb-true}
 use Rattle.object_faults.specs.Columns.{date_by, IsFirst, lower, lower_fault, rank}
 use Rattle.object_faults.specs.declared.fault.ValueFault.{ValueFault}
 use Rattle.object_faults.specs.declared.first.Found.{Found}
-use Rattle.object_faults.specs.Faults.{fault_by}
+use Rattle.object_faults.specs.claims.Faults.{fault_by}
 
 -- the fault of dates beside the others
 pub merged : (m n o r v e p u t : Bool) → lower_fault (fault_by m n o r v e false) (cond p (date_by u t) None) ≡ fault_by m n o (r || (p && u)) v e (p && t)

@@ -14,11 +14,11 @@ use Rattle.object_faults.specs.declared.first.Found.{Found}
 use Rattle.std.proofs.lemmas.Option.{slice_get_within}
 use Rattle.object_faults.specs.declared.needs.Side.TheVariants.{Masters, Dependents}
 use Rattle.object_faults.specs.Columns.{any_at, column_fault, date_at, date_by, date_fault, first_of, IsFirst, lower_fault, name_columns, plain_fault, registered_fault, side_fault, value_columns, whole_at}
-use Rattle.object_faults.specs.Dated.{has_bad_line, has_other_line}
-use Rattle.object_faults.specs.Faults.{AreFree, fault_by, fault_of, is_broken, is_lacking, is_registered, IsFirstFault, lacks, value_fault}
-use Rattle.object_inheritance.specs.Kinds.{is_period}
+use Rattle.object_faults.specs.claims.Dated.{has_bad_line, has_other_line}
+use Rattle.object_faults.specs.claims.Faults.{AreFree, fault_by, fault_of, is_broken, is_lacking, is_registered, IsFirstFault, lacks, value_fault}
+use Rattle.object_inheritance.specs.claims.Kinds.{is_period}
 use Rattle.object_faults.proofs.RankLemmas.{merged}
-use Rattle.object_faults.specs.Tables.{name_lists, names, numbers, option_lists, range_lines, zeros}
+use Rattle.object_faults.specs.claims.Tables.{name_lists, names, numbers, option_lists, range_lines, zeros}
 
 -- faults that are all one, before others
 group : {X : Type 0} (fault : ValueFault) (broken : X → Bool) (xs : List X) (others : List (Option ValueFault))

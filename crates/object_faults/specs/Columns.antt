@@ -6,8 +6,8 @@ use Rattle.std.specs.Option.{option_and_then, option_or}
 use Rattle.object_reader.specs.declared.block.Block.{Block}
 use Rattle.object_reader.specs.declared.block.BlockKind.{BlockKind}
 use Rattle.object_reader.specs.declared.block.BlockKind.TheVariants.{Host, HostGroup, Service, ServiceGroup, Contact, ContactGroup, TimePeriod, Command, HostEscalation, ServiceEscalation, HostDependency, ServiceDependency}
-use Rattle.object_groups.specs.Objects.{name_directive}
-use Rattle.object_inheritance.specs.Templates.{kind_number}
+use Rattle.object_groups.specs.claims.Objects.{name_directive}
+use Rattle.object_inheritance.specs.claims.Templates.{kind_number}
 use Rattle.object_values.specs.declared.options.OptionKind.TheVariants as lists
 use Rattle.object_values.specs.declared.options.CriteriaKind.TheVariants.{OfHosts, OfServices}
 use Rattle.object_faults.specs.declared.column.Check.{Check}
@@ -20,11 +20,12 @@ use Rattle.object_faults.specs.declared.first.Found.{Found}
 use Rattle.object_faults.specs.declared.lists.NameList.TheVariants as entries
 use Rattle.object_faults.specs.declared.needs.Side.{Side}
 use Rattle.object_faults.specs.declared.needs.Side.TheVariants.{Masters, Dependents}
-use Rattle.object_faults.specs.Dated.{has_bad_line, has_other_line}
-use Rattle.object_faults.specs.Faults.{fault_by, is_broken, is_lacking, is_registered, lacks}
-use Rattle.object_inheritance.specs.Kinds.{has_contacts, is_contact, is_dependency, is_escalation, is_host_or_service, is_period, is_service, means_nothing}
+use Rattle.object_faults.specs.claims.Dated.{has_bad_line, has_other_line}
+use Rattle.object_faults.specs.claims.Faults.{fault_by, is_broken, is_lacking, is_registered, lacks}
+use Rattle.object_inheritance.specs.claims.Kinds.{is_period, means_nothing}
+use Rattle.object_inheritance.specs.Kinds.{has_contacts, is_contact, is_dependency, is_escalation, is_host_or_service, is_service}
 use Rattle.object_faults.specs.Lists.{is_list_of, list_directive}
-use Rattle.object_faults.specs.Tables.{name_lists, numbers, option_lists, range_lines, zeros}
+use Rattle.object_faults.specs.claims.Tables.{name_lists, numbers, option_lists, range_lines, zeros}
 
 -- the name of a directive
 abbrev pub directive_of : Column → List ℕ

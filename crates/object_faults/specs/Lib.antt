@@ -1,5 +1,4 @@
-pub mod Tables
-pub mod Dated
+pub mod claims
 pub mod Faults
 pub mod Lists
 pub mod Columns

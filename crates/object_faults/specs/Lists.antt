@@ -3,7 +3,8 @@ use Rattle.std.specs.Prelude.{ℕ, Bool, List, codes}
 use Rattle.object_reader.specs.declared.block.BlockKind.{BlockKind}
 use Rattle.object_faults.specs.declared.lists.NameList.{NameList}
 use Rattle.object_faults.specs.declared.lists.NameList.TheVariants.{HostGroups, ServiceGroups, ContactGroups, HostNames, HostGroupNames, Descriptions, ServiceGroupNames, DependentHostNames, DependentHostGroupNames, DependentDescriptions, DependentServiceGroupNames, Contacts, GroupsOfContacts, HostCommands, ServiceCommands, Members, HostGroupMembers, ServiceGroupMembers, ContactGroupMembers, Excludes}
-use Rattle.object_inheritance.specs.Kinds.{has_contacts, is_contact, is_contact_group, is_dependency, is_group, is_host, is_host_group, is_period, is_service, is_service_dependency, is_service_group, lists_hosts, lists_services}
+use Rattle.object_inheritance.specs.claims.Kinds.{is_period}
+use Rattle.object_inheritance.specs.Kinds.{has_contacts, is_contact, is_contact_group, is_dependency, is_group, is_host, is_host_group, is_service, is_service_dependency, is_service_group, lists_hosts, lists_services}
 
 -- the name of a list
 abbrev pub list_directive : NameList → List ℕ

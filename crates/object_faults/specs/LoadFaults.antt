@@ -3,12 +3,8 @@ use Rattle.std.specs.Prelude.{ℕ, List, ◌++◌, codes}
 use Rattle.std.specs.Fmt.{decimal}
 use Rattle.object_faults.specs.declared.fault.PassFault.{PassFault}
 use Rattle.object_faults.specs.declared.fault.PassFault.TheVariants as pass
-use Rattle.object_faults.specs.declared.fault.ValueFault.{ValueFault}
-use Rattle.object_faults.specs.declared.fault.ValueFault.TheVariants as values
 use Rattle.object_inheritance.specs.declared.templates.InheritanceFault.{InheritanceFault}
 use Rattle.object_inheritance.specs.declared.templates.InheritanceFault.TheVariants as inherit
-use Rattle.object_inheritance.specs.declared.templates.TemplateFault.{TemplateFault}
-use Rattle.object_inheritance.specs.declared.templates.TemplateFault.TheVariants as templates
 use Rattle.object_reader.specs.Fault as reader
 use Rattle.object_reader.specs.declared.fault.ReadFault.{ReadFault}
 use Rattle.object_reader.specs.declared.fault.ReadFault.TheVariants as read
@@ -16,6 +12,7 @@ use Rattle.object_faults.specs.declared.load_fault.BlockFault.{BlockFault}
 use Rattle.object_faults.specs.declared.load_fault.BlockFault.TheVariants.{UnknownTemplate, TemplateLoop, Doubled, MissingDirective, BadNumber, BadOption, BadRange, Volatile, Exclusion, DatedException, UnknownName, PeriodLoop, DependencyLoop, TooMany}
 use Rattle.object_faults.specs.declared.load_fault.LoadFault.{LoadFault}
 use Rattle.object_faults.specs.declared.load_fault.LoadFault.TheVariants as load
+use Rattle.object_faults.specs.claims.LoadFaults.{of_template, of_value}
 
 -- ---- texts
 
@@ -54,22 +51,6 @@ abbrev pub of_read : ReadFault → LoadFault
 of_read (read.AtLine line fault) = load.Line line fault
 of_read read.TooLarge = load.TooLarge
 of_read read.NoMemory = load.NoMemory
-
--- of a block's templates
-abbrev pub of_template : TemplateFault → BlockFault
-of_template templates.UnknownTemplate = UnknownTemplate
-of_template templates.TemplateLoop = TemplateLoop
-of_template templates.Doubled = Doubled
-
--- of its values
-abbrev pub of_value : ValueFault → BlockFault
-of_value values.MissingDirective = MissingDirective
-of_value values.BadNumber = BadNumber
-of_value values.BadOption = BadOption
-of_value values.BadRange = BadRange
-of_value values.Volatile = Volatile
-of_value values.Exclusion = Exclusion
-of_value values.DatedException = DatedException
 
 -- each with its line
 abbrev pub of_inherited : InheritanceFault → LoadFault

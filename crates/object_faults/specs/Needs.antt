@@ -3,7 +3,7 @@ use Rattle.std.specs.Prelude.{◌≡◌, List}
 use Rattle.object_reader.specs.declared.block.Block.{Block}
 use Rattle.object_inheritance.specs.Columns.{Column}
 use Rattle.object_faults.specs.declared.needs.Side.{Side}
-use Rattle.object_faults.specs.Tables.{description_directive, group_directive, host_directive, service_group_directive}
+use Rattle.object_faults.specs.claims.Tables.{description_directive, group_directive, host_directive, service_group_directive}
 
 -- blocks, and a side
 pub record NeedsOf : Type 0 where

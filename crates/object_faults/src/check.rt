@@ -3,7 +3,8 @@
 ghost use Rattle.std.specs.Prelude.{◌≡◌, length, map, IfErr, IfOk, OnOk, Some};
 ghost use Rattle.object_faults.specs.Columns.{any_at, first_at, IsFirst, lacking_at};
 ghost use Rattle.object_faults.specs.Columns.{name_columns, value_columns, whole_at};
-ghost use Rattle.object_faults.specs.Faults.{AreFree, is_registered, IsRefusal};
+ghost use Rattle.object_faults.specs.claims.Faults.{AreFree, is_registered};
+ghost use Rattle.object_faults.specs.Faults.{IsRefusal};
 
 use crate::column::Column;
 use crate::dates::first_dated;

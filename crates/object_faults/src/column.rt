@@ -3,7 +3,7 @@
 ghost use Rattle.std.specs.Prelude.{◌≡◌};
 ghost use Rattle.object_faults.specs.Columns.{check_of, criteria_check, directive_of};
 ghost use Rattle.object_faults.specs.Columns.{escalation_check, fault_name, options_check, when};
-ghost use Rattle.object_faults.specs.Faults.{breaks};
+ghost use Rattle.object_faults.specs.claims.Faults.{breaks};
 
 use crate::fault::ValueFault;
 use crate::lists::{NameList, is_list_of, list_directive};

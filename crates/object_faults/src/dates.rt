@@ -4,9 +4,10 @@
 ghost use Rattle.std.specs.Prelude.{◌≡◌, ℕ, ◌<◌, List, length, map, slice_index_or, IfOk, OnOk};
 ghost use Rattle.std.specs.List.{list_any};
 ghost use Rattle.object_faults.specs.Columns.{date_at, date_by, IsFirst};
-ghost use Rattle.object_faults.specs.Dated.{has_bad_line, has_colon, has_other_line, has_time, is_bad_day};
-ghost use Rattle.object_faults.specs.Dated.{is_bad_line, is_other_day, is_other_line};
-ghost use Rattle.object_inheritance.specs.DatedLines.{AreLines, named};
+ghost use Rattle.object_faults.specs.claims.Dated.{has_bad_line, has_colon, has_other_line, has_time, is_bad_day};
+ghost use Rattle.object_faults.specs.claims.Dated.{is_bad_line, is_other_day, is_other_line};
+ghost use Rattle.object_inheritance.specs.claims.DatedLines.{AreLines};
+ghost use Rattle.object_inheritance.specs.DatedLines.{named};
 ghost use Rattle.object_inheritance.specs.LineSearch.{AreMarks};
 ghost use Rattle.object_reader.specs.declared.block.Block.{Block};
 

@@ -6,11 +6,11 @@ ghost use Rattle.std.specs.Option.{option_map_or};
 ghost use Rattle.object_faults.specs.Columns.{column_fault, directive_of, earlier};
 ghost use Rattle.object_faults.specs.Columns.{fault_at, first_at, IsFirst, lower, rank};
 ghost use Rattle.object_faults.specs.Columns.{registered_fault, side_at, side_fault};
-ghost use Rattle.object_faults.specs.Faults.{breaks, is_broken, is_registered};
+ghost use Rattle.object_faults.specs.claims.Faults.{breaks, is_broken, is_registered};
 ghost use Rattle.object_faults.specs.Known.{AreKnown};
-ghost use Rattle.object_groups.specs.Names.{is_exclusion};
-ghost use Rattle.object_groups.specs.Objects.{list_at};
-ghost use Rattle.object_inheritance.specs.Inherited.{value};
+ghost use Rattle.object_groups.specs.claims.Names.{is_exclusion};
+ghost use Rattle.object_groups.specs.claims.Objects.{list_at};
+ghost use Rattle.object_inheritance.specs.claims.Inherited.{value};
 
 use crate::column::{Check, Column, breaks, check_of, directive_of, fault_name};
 use crate::fault::ValueFault;

@@ -2,7 +2,8 @@
 
 ghost use Rattle.std.specs.Prelude.{◌≡◌, Some};
 ghost use Rattle.object_faults.specs.LoadFaults.{fault_name, fault_text, of_inherited, of_read};
-ghost use Rattle.object_faults.specs.LoadFaults.{of_template, of_value, of_values};
+ghost use Rattle.object_faults.specs.claims.LoadFaults.{of_template, of_value};
+ghost use Rattle.object_faults.specs.LoadFaults.{of_values};
 ghost use Rattle.object_faults.specs.declared.load_fault.LoadFault.TheVariants.{NoMemory};
 
 use crate::fault::{PassFault, ValueFault};

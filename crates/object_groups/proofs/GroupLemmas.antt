@@ -4,29 +4,32 @@ use Rattle.std.specs.Prelude.{All, Contains, codes, unwrap_or, ◌↔◌}
 use Rattle.std.specs.Option.{option_map_or}
 use Rattle.std.proofs.lemmas.Option.{slice_get_read}
 use Rattle.object_inheritance.specs.Columns.{Column}
-use Rattle.object_inheritance.specs.Inherited.{value}
+use Rattle.object_inheritance.specs.claims.Inherited.{value}
 use Rattle.std.specs.List.{flat_map, range_with_len}
 use Rattle.std.proofs.lemmas.Bool.{false≢true}
 use Rattle.std.proofs.lemmas.List.{get_or-map, get_or_default, get_or_past, map-append}
 use Rattle.std.proofs.lemmas.List.Concat.{flat_map-cons}
 use Rattle.std.proofs.lemmas.List.Elements.{All-from_get_or, Contains-get_or}
 use Rattle.graph.specs.declared.edges.Edge.{Edge}
-use Rattle.graph.specs.Chains.{Reaches}
-use Rattle.graph.specs.Edges.{HasEdges, IsWithin, Leads}
+use Rattle.graph.specs.claims.Chains.{Reaches}
+use Rattle.graph.specs.claims.Edges.{Leads}
+use Rattle.graph.specs.Edges.{HasEdges, IsWithin}
 use Rattle.graph.specs.Reach.{IsReached}
 use Rattle.object_reader.specs.declared.block.Block.{Block}
 use Rattle.object_reader.specs.declared.block.BlockKind.{BlockKind}
 use Rattle.object_groups.specs.declared.groups.GroupKind.{GroupKind}
-use Rattle.object_groups.specs.Groups.{group_kind, grouping, object_kind, own_groups_directive, subgroups_directive}
-use Rattle.object_groups.specs.Members.{AreMembers, Grouping, IsMember}
-use Rattle.object_groups.specs.Names.{Lists}
+use Rattle.object_groups.specs.claims.Groups.{group_kind, grouping, object_kind, own_groups_directive, subgroups_directive}
+use Rattle.object_groups.specs.claims.Members.{Grouping, IsMember}
+use Rattle.object_groups.specs.Members.{AreMembers}
+use Rattle.object_groups.specs.claims.Names.{Lists}
 use Rattle.object_groups.specs.declared.lists.Direction.{Direction}
 use Rattle.object_groups.specs.declared.lists.Direction.TheVariants.{FromNames, ToNames}
 use Rattle.object_groups.specs.declared.lists.ListNodes.{ListNodes}
 use Rattle.object_groups.specs.ListEdges.{between, edge, edges_at, IsEdge, LeadOver, list_edges, nodes_at, nodes_of}
 use Rattle.object_groups.specs.Nodes.{all_objects, AreBelow, edges_in, end_edges, group_ends, group_node, IsGraphOf, member_edges, node_count, own_edges, subgroup_edges}
 use Rattle.object_groups.specs.ReachLaws.{lead-on}
-use Rattle.object_groups.specs.Objects.{is_object, is_object_at, list_at, lists_in, name_at, name_directive, names_in, objects_in, ObjectsOf}
+use Rattle.object_groups.specs.claims.Objects.{is_object, is_object_at, list_at, lists_in, name_at, name_directive, names_in, objects_in}
+use Rattle.object_groups.specs.Objects.{ObjectsOf}
 use Rattle.object_groups.proofs.NodeLemmas.{ends-within, member-from_reached, members-within, reached-from_member, subgroups-within}
 use Rattle.object_groups.specs.ObjectLaws.{listed-within, names-long}
 use Rattle.lemmas.proofs.Chains.{Chain-map}

@@ -1,9 +1,9 @@
 -- That a loop among groups adds nothing.
 use Rattle.std.proofs.Common.{◌≡◌, ℕ, zero, suc, refl, sym, subst, inl, ⊎_elim}
 use Rattle.lemmas.proofs.Chains.{Reaches-join}
-use Rattle.graph.specs.Chains.{Chain, Reaches}
+use Rattle.graph.specs.claims.Chains.{Chain, Reaches}
 use Rattle.object_groups.specs.Laws.{AddsInclusion, LoopAddsNothing}
-use Rattle.object_groups.specs.Members.{Grouping, Includes, IsMember}
+use Rattle.object_groups.specs.claims.Members.{Grouping, Includes, IsMember}
 
 module _ (g more : Grouping) (group last : ℕ) (leads : Reaches (Includes g) group last) (adds : AddsInclusion g more last group) where
   -- a chain that goes along the loop can begin anew at the group

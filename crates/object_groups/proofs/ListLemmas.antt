@@ -14,9 +14,9 @@ use Rattle.object_groups.specs.declared.lists.ListNodes.{ListNodes}
 use Rattle.object_groups.specs.declared.shared.Parts.{Parts}
 use Rattle.object_groups.specs.declared.shared.SharedList.{SharedList}
 use Rattle.object_groups.specs.ListEdges.{Begins, edges_at, inner_nodes, kind_of, LeadOver, list_edges, named, node_of_all, nodes_at, nodes_by, part_nodes, shared_nodes, top_nodes}
-use Rattle.object_groups.specs.Names.{is_all, number_of, numbers_of}
+use Rattle.object_groups.specs.claims.Names.{is_all, number_of, numbers_of}
 use Rattle.object_groups.specs.ObjectLaws.{numbers-within}
-use Rattle.object_groups.specs.Objects.{list_at}
+use Rattle.object_groups.specs.claims.Objects.{list_at}
 use Rattle.object_groups.specs.ReachLaws.{InParts, lead-over, OfList, StandFor}
 use Rattle.object_groups.specs.SharedLaws.{before-taken, below-less, below-taken, shared-at, whole-at, whole-is, wholes-long}
 use Rattle.object_groups.specs.Shared.{AreShared, AreSharedLists, list_before, nearest_at, wholes_of}

@@ -7,12 +7,13 @@ use Rattle.std.proofs.lemmas.Bool.{cases_lt, false≢true}
 use Rattle.std.proofs.lemmas.List.{get_or_past}
 use Rattle.std.proofs.lemmas.List.Elements.{All-from_get_or, Contains-append_left, Contains-append_right, Contains-append_cases, Contains-get_or}
 use Rattle.graph.specs.declared.edges.Edge.{Edge}
-use Rattle.graph.specs.Chains.{Chain, Reaches}
-use Rattle.graph.specs.Edges.{IsWithin, Leads}
+use Rattle.graph.specs.claims.Chains.{Chain, Reaches}
+use Rattle.graph.specs.claims.Edges.{Leads}
+use Rattle.graph.specs.Edges.{IsWithin}
 use Rattle.object_groups.specs.declared.lists.Direction.TheVariants.{FromNames, ToNames}
 use Rattle.object_groups.specs.ListEdges.{edge, IsEdge, named, nodes_of}
-use Rattle.object_groups.specs.Members.{Grouping, Holds, Includes, IsMember}
-use Rattle.object_groups.specs.Names.{is_all, Lists, numbers_of}
+use Rattle.object_groups.specs.claims.Members.{Grouping, Holds, Includes, IsMember}
+use Rattle.object_groups.specs.claims.Names.{is_all, Lists, numbers_of}
 use Rattle.object_groups.specs.Nodes.{all_groups, all_objects, edges_in, end_edges, group_ends, group_node, IsGraphOf, LeadsToMembers, member_edges, node_count, of_all_groups, own_edges, subgroup_edges}
 use Rattle.object_groups.specs.ObjectLaws.{listed-within, numbers-within}
 use Rattle.object_groups.specs.NodeLaws.{edge-from, edge-to, from-node, FromNode, to-node}

@@ -12,7 +12,8 @@ use Rattle.std.proofs.lemmas.List.{map-append}
 use Rattle.std.proofs.lemmas.List.Elements.{filter-append, filter_map-append}
 use Rattle.lemmas.proofs.Searches.{found-one, or-none, position-snoc, texts-more}
 use Rattle.graph.specs.declared.edges.Edge.{Edge}
-use Rattle.object_groups.specs.Names.{HasNumbers, name_eq, number_of, numbers_of}
+use Rattle.object_groups.specs.claims.Names.{number_of, numbers_of}
+use Rattle.object_groups.specs.Names.{HasNumbers, name_eq}
 use Rattle.object_values.specs.Values.{texts}
 use Rattle.lemmas.proofs.Numbers.{below_more}
 

@@ -7,10 +7,11 @@ use Rattle.std.proofs.lemmas.List.{append-nil, get_or_append_left, length-append
 use Rattle.std.proofs.Math.Seq.{get_or-append_seam}
 use Rattle.object_groups.specs.declared.shared.Parts.{Parts}
 use Rattle.object_groups.specs.declared.shared.SharedList.{SharedList}
-use Rattle.object_groups.specs.Objects.{list_at}
+use Rattle.object_groups.specs.claims.Objects.{list_at}
 use Rattle.object_groups.specs.Shared.{AreFound, AreSharedLists, Grows, HasParts, HaveParts, IsChain, IsNumberOf, IsSharedList, list_before, nearest_at, own_part, wholes_of}
 use Rattle.object_inheritance.specs.Columns.{given_from}
-use Rattle.object_inheritance.specs.Inherited.{beside, given, joined_entries, list_given}
+use Rattle.object_inheritance.specs.claims.Inherited.{given, joined_entries, list_given}
+use Rattle.object_inheritance.specs.Inherited.{beside}
 use Rattle.object_inheritance.specs.JoinedLaws.{joined-parts, list-entries}
 use Rattle.object_reader.specs.declared.block.Block.{Block}
 

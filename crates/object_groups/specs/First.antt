@@ -1,10 +1,5 @@
 -- The first place of which something is said.
-use Rattle.std.specs.Prelude.{ℕ, ◌<◌, nat_le, Option, Some, None, if◌then◌else◌}
-
--- the first place of which `P` says so, if there is one
-abbrev pub IsFirst : (P : ℕ → Type 0) → Option ℕ → Type 0
-IsFirst P None = (place : ℕ) → P place → ⊥
-IsFirst P (Some place) = P place × ((k : ℕ) → k < place → P k → ⊥)
+use Rattle.std.specs.Prelude.{ℕ, nat_le, Option, Some, None, if◌then◌else◌}
 
 -- the lower of two places that may be there
 abbrev pub lower : Option ℕ → Option ℕ → Option ℕ

@@ -1,7 +1,8 @@
 -- The first place of which something is said, and of which one or another thing is said.
 use Rattle.std.proofs.Common.{◌≡◌, ℕ, ◌<◌, ◌≤◌, Bool, true, false, cond, Option, Some, None, refl, sym, subst, ⊎_elim, ◌⊎◌, inl, inr, arith, leb-false, leb-true}
 use Rattle.std.specs.Prelude.{nat_le}
-use Rattle.object_groups.specs.First.{IsFirst, lower}
+use Rattle.object_groups.specs.claims.First.{IsFirst}
+use Rattle.object_groups.specs.First.{lower}
 
 module _ (P Q : ℕ → Type 0) where
   by_order : (one other : ℕ) → IsFirst P (Some one) → IsFirst Q (Some other) → (c : Bool) → nat_le one other ≡ c → IsFirst (λ n. P n ⊎ Q n) (cond c (Some one) (Some other))

@@ -1,7 +1,7 @@
 -- Laws of groups, of any groups.
 use Rattle.std.specs.Prelude.{◌≡◌, ℕ, ◌⊎◌, ◌↔◌}
-use Rattle.graph.specs.Chains.{Reaches}
-use Rattle.object_groups.specs.Members.{Grouping, Holds, Includes, IsMember}
+use Rattle.graph.specs.claims.Chains.{Reaches}
+use Rattle.object_groups.specs.claims.Members.{Grouping, Holds, Includes, IsMember}
 
 -- the groups hold the same objects, and list the same groups but that `from` now lists `to` too
 pub record AddsInclusion (g more : Grouping) (from to : ℕ) : Type 0 where

@@ -1,3 +1,4 @@
+pub mod claims
 pub mod Names
 pub mod Members
 pub mod Objects

@@ -3,7 +3,7 @@ use Rattle.std.specs.Prelude.{◌≡◌, ℕ, ◌+◌, ◌<◌, ◌≤◌, ◌�
 use Rattle.std.specs.List.{flat_map, range_with_len}
 use Rattle.std.specs.Option.{option_map_or, option_to_list}
 use Rattle.graph.specs.declared.edges.Edge.{Edge}
-use Rattle.graph.specs.Chains.{Reaches}
+use Rattle.graph.specs.claims.Chains.{Reaches}
 use Rattle.graph.specs.Edges.{IsWithin}
 use Rattle.object_groups.specs.declared.lists.Direction.{Direction}
 use Rattle.object_groups.specs.declared.lists.Direction.TheVariants.{ToNames, FromNames}
@@ -12,8 +12,8 @@ use Rattle.object_groups.specs.declared.lists.ListKind.TheVariants.{All as Every
 use Rattle.object_groups.specs.declared.lists.ListNodes.{ListNodes}
 use Rattle.object_groups.specs.declared.shared.Parts.{Parts}
 use Rattle.object_groups.specs.declared.shared.SharedList.{SharedList}
-use Rattle.object_groups.specs.Names.{is_all, numbers_of}
-use Rattle.object_groups.specs.Objects.{list_at}
+use Rattle.object_groups.specs.claims.Names.{is_all, numbers_of}
+use Rattle.object_groups.specs.claims.Objects.{list_at}
 use Rattle.object_groups.specs.Shared.{nearest_at, own_part}
 use Rattle.object_reader.specs.declared.block.Block.{Block}
 

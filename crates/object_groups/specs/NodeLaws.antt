@@ -8,7 +8,7 @@ use Rattle.std.proofs.lemmas.Bool.{false≢true, lt-ltb, ltb-true}
 use Rattle.lemmas.proofs.Elements.{Contains-cases, Contains-filter, Contains-from_filter, Contains-from_map, Contains-here, Contains-map, Contains-none, in_order-rising, in_order-same}
 use Rattle.graph.specs.declared.edges.Edge.{Edge}
 use Rattle.object_groups.specs.ListEdges.{edge, named, nodes_of}
-use Rattle.object_groups.specs.Names.{is_all, Lists, numbers_of}
+use Rattle.object_groups.specs.claims.Names.{is_all, Lists, numbers_of}
 use Rattle.object_groups.specs.Nodes.{AreBelow}
 use Rattle.object_groups.specs.ObjectLaws.{numbers-within}
 

@@ -6,11 +6,11 @@ use Rattle.std.specs.Prelude.{◌≡◌, ℕ, ◌+◌, ◌<◌, ◌≤◌, ◌�
 use Rattle.std.specs.List.{flat_map, range_with_len}
 use Rattle.std.specs.List.Sorted.{IsStrictlyIncreasing}
 use Rattle.graph.specs.declared.edges.Edge.{Edge}
-use Rattle.graph.specs.Chains.{Reaches}
-use Rattle.graph.specs.Edges.{Leads}
+use Rattle.graph.specs.claims.Chains.{Reaches}
+use Rattle.graph.specs.claims.Edges.{Leads}
 use Rattle.object_groups.specs.declared.lists.Direction.TheVariants.{FromNames, ToNames}
 use Rattle.object_groups.specs.ListEdges.{edge, IsEdge, list_edges, nodes_of}
-use Rattle.object_groups.specs.Members.{Grouping, IsMember}
+use Rattle.object_groups.specs.claims.Members.{Grouping, IsMember}
 
 -- the numbers of the nodes, where these are the names of the objects and of the groups
 abbrev pub group_node : (objects : List (List ℕ)) → ℕ → ℕ

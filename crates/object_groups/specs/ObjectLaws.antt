@@ -8,8 +8,8 @@ use Rattle.std.proofs.lemmas.List.Elements.{All-contains}
 use Rattle.lemmas.proofs.Searches.{All-found, position-within}
 use Rattle.object_reader.specs.declared.block.Block.{Block}
 use Rattle.object_reader.specs.declared.block.BlockKind.{BlockKind}
-use Rattle.object_groups.specs.Objects.{is_object, is_object_at, list_at, lists_in, name_at, names_in, objects_in}
-use Rattle.object_groups.specs.Names.{Lists, number_of, numbers_of}
+use Rattle.object_groups.specs.claims.Objects.{is_object, is_object_at, list_at, lists_in, name_at, names_in, objects_in}
+use Rattle.object_groups.specs.claims.Names.{Lists, number_of, numbers_of}
 
 pub names-long : (blocks : List Block) (kind : BlockKind) → length (names_in blocks kind) ≡ length (objects_in blocks kind)
 unfolding names_in

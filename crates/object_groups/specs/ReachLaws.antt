@@ -4,7 +4,7 @@ use Rattle.std.specs.Prelude.{All, Contains, ◌↔◌}
 use Rattle.std.specs.List.{range_with_len}
 use Rattle.std.proofs.lemmas.List.Elements.{All-contains, All-from_get_or, Contains-append_cases, Contains-append_left, Contains-append_right, Contains-get_or}
 use Rattle.graph.specs.declared.edges.Edge.{Edge}
-use Rattle.graph.specs.Chains.{Chain, Reaches}
+use Rattle.graph.specs.claims.Chains.{Chain, Reaches}
 use Rattle.graph.specs.Edges.{IsWithin}
 use Rattle.lemmas.proofs.Chains.{Chain-map, Reaches-join}
 use Rattle.lemmas.proofs.Elements.{Contains-flat_map, Contains-from_flat_map, Contains-from_map, Contains-from_range, Contains-map, Contains-range}

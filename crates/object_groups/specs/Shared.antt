@@ -4,8 +4,9 @@ use Rattle.std.proofs.Common.{Bool, eqb}
 use Rattle.std.specs.Map.{lookup}
 use Rattle.object_groups.specs.declared.shared.Parts.{Parts}
 use Rattle.object_groups.specs.declared.shared.SharedList.{SharedList}
-use Rattle.object_groups.specs.Objects.{list_at}
-use Rattle.object_inheritance.specs.Inherited.{given, nearest_entries}
+use Rattle.object_groups.specs.claims.Objects.{list_at}
+use Rattle.object_inheritance.specs.claims.Inherited.{given}
+use Rattle.object_inheritance.specs.Inherited.{nearest_entries}
 use Rattle.object_reader.specs.declared.block.Block.{Block}
 
 -- the entries of the text that is given to the block at a place, without the list that it is added to

@@ -6,7 +6,7 @@ use Rattle.std.proofs.lemmas.List.{get_or-map, get_or-take, length-map}
 use Rattle.std.proofs.lemmas.Option.{slice_get-get_or}
 use Rattle.object_groups.specs.declared.shared.Parts.{Parts}
 use Rattle.object_groups.specs.declared.shared.SharedList.{SharedList}
-use Rattle.object_groups.specs.Objects.{list_at}
+use Rattle.object_groups.specs.claims.Objects.{list_at}
 use Rattle.object_groups.specs.Shared.{AreShared, AreSharedLists, HasParts, IsSharedList, list_before, wholes_of}
 use Rattle.object_reader.specs.declared.block.Block.{Block}
 

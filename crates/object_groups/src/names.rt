@@ -4,10 +4,11 @@ ghost use Rattle.std.specs.Prelude.{◌≡◌, ℕ, ◌<◌, ◌++◌, ◌∷◌
 ghost use Rattle.std.specs.Prelude.{length, slice_index_or, IfOk, IfSome, OnOk};
 ghost use Rattle.std.specs.List.{list_any};
 ghost use Rattle.std.specs.Option.{option_to_list};
-ghost use Rattle.object_groups.specs.Names.{has_unknown, HasNumbers, is_all, is_doubled};
-ghost use Rattle.object_groups.specs.Names.{is_exclusion};
-ghost use Rattle.object_groups.specs.Names.{lacks, lacks_any};
-ghost use Rattle.object_groups.specs.Names.{number_of, numbers_of};
+ghost use Rattle.object_groups.specs.claims.Names.{has_unknown, is_all};
+ghost use Rattle.object_groups.specs.Names.{HasNumbers, is_doubled};
+ghost use Rattle.object_groups.specs.claims.Names.{is_exclusion};
+ghost use Rattle.object_groups.specs.claims.Names.{lacks, lacks_any};
+ghost use Rattle.object_groups.specs.claims.Names.{number_of, numbers_of};
 ghost use Rattle.object_values.specs.Values.{texts};
 
 use indexmap::IndexMap;

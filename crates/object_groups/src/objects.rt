@@ -3,10 +3,10 @@
 
 ghost use Rattle.std.specs.Prelude.{◌≡◌, ◌<◌, ◌++◌, ◌∷◌, [], length, map, unwrap_or};
 ghost use Rattle.std.specs.Prelude.{All, IfOk, OnOk, if◌then◌else◌};
-ghost use Rattle.object_groups.specs.Objects.{is_object, list_at, name_at, name_directive};
-ghost use Rattle.object_groups.specs.Objects.{names_in};
-ghost use Rattle.object_groups.specs.Objects.{objects_in};
-ghost use Rattle.object_inheritance.specs.Inherited.{value};
+ghost use Rattle.object_groups.specs.claims.Objects.{is_object, list_at, name_at, name_directive};
+ghost use Rattle.object_groups.specs.claims.Objects.{names_in};
+ghost use Rattle.object_groups.specs.claims.Objects.{objects_in};
+ghost use Rattle.object_inheritance.specs.claims.Inherited.{value};
 ghost use Rattle.object_values.specs.Values.{texts};
 
 use crate::names::Names;

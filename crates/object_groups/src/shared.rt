@@ -3,7 +3,7 @@
 
 ghost use Rattle.std.specs.Prelude.{◌≡◌, ◌++◌, List, None, IfOk, OnOk, IfSome, reverse, ◌<◌};
 ghost use Rattle.std.specs.Prelude.{length};
-ghost use Rattle.object_groups.specs.Objects.{list_at};
+ghost use Rattle.object_groups.specs.claims.Objects.{list_at};
 ghost use Rattle.object_groups.specs.Shared.{AreFound, AreShared, Grows, HasParts, IsChain, IsNumberOf};
 ghost use Rattle.object_groups.specs.Shared.{list_before, nearest_at, own_part, wholes_of};
 ghost use Rattle.object_values.specs.Values.{texts};

@@ -5,15 +5,16 @@ use Rattle.std.specs.Option.{option_and_then, option_map, option_to_list}
 use Rattle.std.proofs.lemmas.Bool.{cases_eq, cases_lt, false≢true, ne_eqb}
 use Rattle.std.proofs.lemmas.Grind.{get_or_default_zero}
 use Rattle.std.proofs.lemmas.List.{append-nil, get_or_past, get_or-set_other, get_or-set_same, map-append, reverse-append, reverse-reverse}
-use Rattle.graph.specs.Edges.{Leads}
+use Rattle.graph.specs.claims.Edges.{Leads}
 use Rattle.graph_order.specs.Order.{IsOrder}
 use Rattle.object_reader.specs.declared.block.Block.{Block}
 use Rattle.object_inheritance.specs.declared.templates.Uses.{Uses}
 use Rattle.object_inheritance.specs.Faults.{AreUses, is_used}
 use Rattle.object_inheritance.specs.Columns.{given_from, HasGiven, HasGivenFrom, HasKept, HasOwn, HasUsed, IsGivenAt, IsInherited, IsNext, IsOwn, line_of}
 use Rattle.object_inheritance.specs.Givers.{last_at, text_at}
-use Rattle.object_inheritance.specs.Inherited.{AreInherited, first_given, given, own, own_entries, is_additive, joined_entries, list_given, sources, stays, value}
-use Rattle.object_inheritance.specs.Templates.{template_graph}
+use Rattle.object_inheritance.specs.claims.Inherited.{first_given, given, own, own_entries, is_additive, joined_entries, list_given, sources, stays, value}
+use Rattle.object_inheritance.specs.Inherited.{AreInherited}
+use Rattle.object_inheritance.specs.claims.Templates.{template_graph}
 use Rattle.object_values.specs.Values.{texts}
 use Rattle.object_inheritance.specs.declared.givers.OwnText.{OwnText}
 use Rattle.object_inheritance.specs.declared.inherited.Given.{Given}

@@ -5,9 +5,10 @@ use Rattle.std.specs.Prelude.{reverse}
 use Rattle.std.specs.List.{list_any, onto_first, position_or_len, prefix_len, slice_split, suffix_len}
 use Rattle.std.proofs.lemmas.Bool.{false≢true, ne_eqb}
 use Rattle.std.proofs.lemmas.List.{append-nil, length-reverse, reverse-append, take_rest}
-use Rattle.object_reader.specs.Blanks.{is_blank, trim_end, trimmed}
-use Rattle.object_values.specs.Values.{entries, is_comma}
-use Rattle.object_inheritance.specs.Inherited.{has_any, is_additive, is_of_entry, joined_entries, name_of, own_entries}
+use Rattle.object_reader.specs.claims.Blanks.{is_blank, trim_end, trimmed}
+use Rattle.object_values.specs.claims.Values.{entries, is_comma}
+use Rattle.object_inheritance.specs.claims.Inherited.{is_additive, joined_entries, name_of, own_entries}
+use Rattle.object_inheritance.specs.Inherited.{has_any, is_of_entry}
 use Rattle.object_inheritance.proofs.ColumnLemmas.{joined-beside}
 
 -- ---- without the blanks at the ends

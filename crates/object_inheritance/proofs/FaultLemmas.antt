@@ -5,13 +5,13 @@ use Rattle.std.specs.Option.{option_map_or}
 use Rattle.std.proofs.lemmas.Bool.{false≢true, cases_lt}
 use Rattle.std.proofs.lemmas.List.{length-map}
 use Rattle.std.proofs.lemmas.Option.{slice_get-get_or, slice_get_within}
-use Rattle.graph.specs.Chains.{HasNoLoop}
-use Rattle.graph.specs.Edges.{Leads}
+use Rattle.graph.specs.claims.Chains.{HasNoLoop}
+use Rattle.graph.specs.claims.Edges.{Leads}
 use Rattle.graph_order.specs.Loops.{IsFirstOnLoop}
 use Rattle.graph_order.specs.Order.{HasLoop}
 use Rattle.object_reader.specs.declared.block.Block.{Block}
-use Rattle.object_inheritance.specs.Faults.{AreFree, AreFreeBefore, fault_by, IsFaultAt, IsLooped}
-use Rattle.object_inheritance.specs.Templates.{template_graph, templates_of}
+use Rattle.object_inheritance.specs.claims.Faults.{AreFree, AreFreeBefore, fault_by, IsFaultAt, IsLooped}
+use Rattle.object_inheritance.specs.claims.Templates.{template_graph, templates_of}
 
 none-looped : (unknown looped doubled : Bool) → None ≡ fault_by unknown looped doubled → looped ≡ true → ⊥
 none-looped true looped doubled is loops = false≢true (ap is_some is)

@@ -17,8 +17,8 @@ use Rattle.object_reader.specs.declared.block.Block.{Block}
 use Rattle.object_reader.specs.declared.block.Directive.{Directive}
 use Rattle.object_inheritance.specs.declared.givers.OwnText.{OwnText}
 use Rattle.object_inheritance.specs.Givers.{last_at, own_in, text_at}
-use Rattle.object_inheritance.specs.Inherited.{own}
-use Rattle.object_values.specs.Values.{value_in}
+use Rattle.object_inheritance.specs.claims.Inherited.{own}
+use Rattle.object_values.specs.claims.Values.{value_in}
 use Rattle.object_inheritance.proofs.InheritedLemmas.{own-past}
 
 picked : {X Y : Type 0} (f : X → Y) (b : Bool) (x : X) (other : Option X) → option_map f (cond b (Some x) other) ≡ cond b (Some (f x)) (option_map f other)

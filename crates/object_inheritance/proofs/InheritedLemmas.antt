@@ -12,11 +12,12 @@ use Rattle.std.proofs.lemmas.Grind.{get_or_default_zero}
 use Rattle.std.proofs.lemmas.List.{get_or_past, length-map}
 use Rattle.std.proofs.lemmas.List.Sums.{fails_before_first, passes_at_first, prefix_len-le-length}
 use Rattle.std.proofs.lemmas.Option.{slice_get_past}
-use Rattle.graph.specs.Edges.{Leads}
+use Rattle.graph.specs.claims.Edges.{Leads}
 use Rattle.graph_order.specs.Order.{IsOrder}
 use Rattle.object_reader.specs.declared.block.Block.{Block}
-use Rattle.object_inheritance.specs.Inherited.{AreInherited, AreShort, first_given, given, given_along, own, sources, stays}
-use Rattle.object_inheritance.specs.Templates.{template_graph, templates_of}
+use Rattle.object_inheritance.specs.claims.Inherited.{first_given, given, given_along, own, sources, stays}
+use Rattle.object_inheritance.specs.Inherited.{AreInherited, AreShort}
+use Rattle.object_inheritance.specs.claims.Templates.{template_graph, templates_of}
 use Rattle.object_inheritance.proofs.UseLemmas.{leads-from, leads-within}
 
 map-same : {X Y : Type 0} (f g : X → Y) (xs : List X) → ((x : X) → Contains xs x → f x ≡ g x) → map f xs ≡ map g xs

@@ -5,10 +5,10 @@ use Rattle.std.specs.Option.{option_map, option_to_list}
 use Rattle.std.proofs.lemmas.Bool.{false≢true}
 use Rattle.std.proofs.lemmas.List.{append-nil}
 use Rattle.object_reader.specs.declared.block.Block.{Block}
-use Rattle.object_inheritance.specs.Inherited.{first_given, given, given_along, is_additive, joined_entries, list, list_given, own, own_entries, sources, stays, value}
-use Rattle.object_inheritance.specs.Templates.{template_graph, template_place, templates_of}
-use Rattle.object_inheritance.specs.Kinds.{means_nothing}
-use Rattle.object_values.specs.Values.{entries_of, value_in}
+use Rattle.object_inheritance.specs.claims.Inherited.{first_given, given, given_along, is_additive, joined_entries, list, list_given, own, own_entries, sources, stays, value}
+use Rattle.object_inheritance.specs.claims.Templates.{template_graph, template_place, templates_of}
+use Rattle.object_inheritance.specs.claims.Kinds.{means_nothing}
+use Rattle.object_values.specs.claims.Values.{entries_of, value_in}
 
 -- what is given, by what the block gives, where there is a block at all
 given-front : (all : List Block) (blocks : List Block) (directive : List ℕ) (place : ℕ) (text : List ℕ) → all ≡ blocks → own all directive place ≡ Some text

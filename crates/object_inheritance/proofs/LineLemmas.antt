@@ -13,15 +13,16 @@ use Rattle.std.proofs.lemmas.List.Folds.{find-append}
 use Rattle.std.proofs.lemmas.Slice.Eq.{bytes_eq-Decides}
 use Rattle.lemmas.proofs.Elements.{Contains-cases, Contains-here, Contains-later, Contains-map, Contains-none}
 use Rattle.lemmas.proofs.Searches.{or-none, or-some}
-use Rattle.object_inheritance.specs.DatedLines.{AreLines, dated_line, named}
+use Rattle.object_inheritance.specs.claims.DatedLines.{AreLines, dated_line}
+use Rattle.object_inheritance.specs.DatedLines.{named}
 use Rattle.object_inheritance.specs.declared.dated_lines.Found.{Found}
 use Rattle.object_inheritance.specs.declared.dated_lines.Line.{Line}
-use Rattle.object_inheritance.specs.Inherited.{value}
+use Rattle.object_inheritance.specs.claims.Inherited.{value}
 use Rattle.object_inheritance.specs.LineSearch.{IsFound, noted, said_by}
 use Rattle.object_reader.specs.declared.block.Block.{Block}
 use Rattle.object_reader.specs.declared.block.Directive.{Directive}
-use Rattle.object_values.specs.Ranges.{is_dated}
-use Rattle.object_values.specs.Values.{value_in}
+use Rattle.object_values.specs.claims.Ranges.{is_dated}
+use Rattle.object_values.specs.claims.Values.{value_in}
 
 pub same-name : (one other : List ℕ) → bytes_eq one other ≡ true → one ≡ other
 same-name one other is = (bytes_eq-Decides one other).0 is

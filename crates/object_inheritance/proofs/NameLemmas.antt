@@ -11,7 +11,7 @@ use Rattle.std.specs.HashMap.Eq.{lookup_congr}
 use Rattle.lemmas.proofs.Searches.{is_none-from, or-none, or-some, position-snoc}
 use Rattle.object_reader.specs.declared.block.Block.{Block}
 use Rattle.object_inheritance.specs.Names.{Key, key_eq, has_key, HasFirsts}
-use Rattle.object_inheritance.specs.Templates.{kind_number, template_name}
+use Rattle.object_inheritance.specs.claims.Templates.{kind_number, template_name}
 
 -- ---- keys
 

@@ -7,16 +7,17 @@ use Rattle.std.proofs.lemmas.List.{length-set, map-append}
 use Rattle.std.proofs.lemmas.List.Elements.{All-append, All-cons, All-map, All-nil, All-tail}
 use Rattle.lemmas.proofs.Writes.{at_set}
 use Rattle.lemmas.proofs.Searches.{or-none}
-use Rattle.object_inheritance.specs.DatedLines.{dated_line}
+use Rattle.object_inheritance.specs.claims.DatedLines.{dated_line}
 use Rattle.object_inheritance.specs.declared.dated_lines.Line.{Line}
 use Rattle.object_inheritance.specs.declared.dated_lines.LineMarks.{LineMarks}
 use Rattle.object_inheritance.specs.declared.dated_lines.Turn.{Turn}
 use Rattle.object_inheritance.specs.declared.dated_lines.Turn.TheVariants.{Enter, Leave}
 use Rattle.object_inheritance.specs.LineSearch.{AreClosed, AreDone, AreMarks, first_text, IsOpen, IsSearch, IsTurn, noted, to_enter, used_at}
 use Rattle.object_inheritance.proofs.LineLemmas.{line-dated, line-undated, or-more, or-nothing, or-open, same-name}
-use Rattle.object_inheritance.specs.Inherited.{AreInherited, first_given, given, own, stays, value}
+use Rattle.object_inheritance.specs.claims.Inherited.{first_given, given, own, stays, value}
+use Rattle.object_inheritance.specs.Inherited.{AreInherited}
 use Rattle.object_reader.specs.declared.block.Block.{Block}
-use Rattle.object_values.specs.Ranges.{is_dated}
+use Rattle.object_values.specs.claims.Ranges.{is_dated}
 use Rattle.std.specs.Str.{bytes_eq}
 
 -- ---- lines of dates are inherited

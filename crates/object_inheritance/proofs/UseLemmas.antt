@@ -8,9 +8,11 @@ use Rattle.std.proofs.lemmas.List.Elements.{filter_map-append, All-nil, All-cont
 use Rattle.lemmas.proofs.Searches.{All-found, found-one, position-within, texts-more}
 use Rattle.lemmas.proofs.Edges.{ends-append, ends-from, get_or-snoc}
 use Rattle.graph.specs.declared.edges.Edge.{Edge}
-use Rattle.graph.specs.Edges.{ends_of, HasEdges, Leads}
+use Rattle.graph.specs.claims.Edges.{Leads}
+use Rattle.graph.specs.Edges.{ends_of, HasEdges}
 use Rattle.object_reader.specs.declared.block.Block.{Block}
-use Rattle.object_inheritance.specs.Templates.{edge_from, is_template, template_graph, template_place, templates_of, used_names}
+use Rattle.object_inheritance.specs.claims.Templates.{is_template, template_graph, template_place, templates_of, used_names}
+use Rattle.object_inheritance.specs.Templates.{edge_from}
 use Rattle.object_values.specs.Values.{texts}
 
 -- ---- one name more

@@ -1,14 +1,15 @@
 -- How it is kept what all blocks have for one directive.
 use Rattle.std.specs.Prelude.{◌≡◌, ℕ, ◌<◌, ◌≤◌, ◌^◌, false, true, List, [], ◌∷◌, length, Option, None, Some, IfSome, slice_index, slice_index_or}
 use Rattle.std.specs.Option.{option_and_then, option_map}
-use Rattle.graph.specs.Edges.{Leads}
+use Rattle.graph.specs.claims.Edges.{Leads}
 use Rattle.object_reader.specs.declared.block.Block.{Block}
 use Rattle.object_inheritance.specs.declared.inherited.Given.{Given}
 use Rattle.object_inheritance.specs.declared.templates.Uses.{Uses}
 use Rattle.object_inheritance.specs.Faults.{AreUses, is_used}
 use Rattle.object_inheritance.specs.Givers.{text_at}
-use Rattle.object_inheritance.specs.Inherited.{AreInherited, given, own, stays}
-use Rattle.object_inheritance.specs.Templates.{template_graph}
+use Rattle.object_inheritance.specs.claims.Inherited.{given, own, stays}
+use Rattle.object_inheritance.specs.Inherited.{AreInherited}
+use Rattle.object_inheritance.specs.claims.Templates.{template_graph}
 
 -- the blocks, and a directive
 pub record Column : Type 0 where

@@ -7,7 +7,7 @@ use Rattle.std.specs.Option.{option_and_then, option_map, option_map_or}
 use Rattle.std.specs.Str.{bytes_eq}
 use Rattle.object_reader.specs.declared.block.Block.{Block}
 use Rattle.object_inheritance.specs.declared.givers.OwnText.{OwnText}
-use Rattle.object_inheritance.specs.Inherited.{own}
+use Rattle.object_inheritance.specs.claims.Inherited.{own}
 
 -- the text of the directive of that number in the block at the place; an empty one where there is none
 abbrev pub text_at : List Block → (place number : ℕ) → List ℕ

@@ -1,7 +1,8 @@
 -- Laws of lists that are added to others.
 use Rattle.std.proofs.Common.{ap, cond, false, List, refl, true, Bool, [], ℕ, ◌++◌, ◌∙◌, ◌∷◌, ◌≡◌}
 use Rattle.std.specs.Prelude.{unwrap_or}
-use Rattle.object_inheritance.specs.Inherited.{beside, is_additive, joined_entries, list_given, nearest_entries, own_entries}
+use Rattle.object_inheritance.specs.claims.Inherited.{is_additive, joined_entries, list_given, own_entries}
+use Rattle.object_inheritance.specs.Inherited.{beside, nearest_entries}
 
 joined-beside : (additive : Bool) (texts : List (List ℕ)) → cond additive (joined_entries texts) [] ≡ joined_entries (cond additive texts [])
 joined-beside true texts = refl

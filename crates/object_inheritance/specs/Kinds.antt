@@ -1,7 +1,7 @@
 -- Which types of block are of one kind (chapter "Object Definitions").
 use Rattle.std.specs.Prelude.{Bool, true, false}
 use Rattle.object_reader.specs.declared.block.BlockKind.{BlockKind}
-use Rattle.object_reader.specs.declared.block.BlockKind.TheVariants.{Host, HostGroup, Service, ServiceGroup, Contact, ContactGroup, TimePeriod, HostEscalation, ServiceEscalation, HostDependency, ServiceDependency, HostExtInfo, ServiceExtInfo}
+use Rattle.object_reader.specs.declared.block.BlockKind.TheVariants.{Host, HostGroup, Service, ServiceGroup, Contact, ContactGroup, HostEscalation, ServiceEscalation, HostDependency, ServiceDependency}
 
 -- whether blocks of the type are hosts
 abbrev pub is_host : BlockKind → Bool
@@ -46,11 +46,6 @@ is_group ServiceGroup = true
 is_group ContactGroup = true
 is_group _ = false
 
--- whether blocks of the type are time periods
-abbrev pub is_period : BlockKind → Bool
-is_period TimePeriod = true
-is_period _ = false
-
 -- whether blocks of the type are escalations
 abbrev pub is_escalation : BlockKind → Bool
 is_escalation HostEscalation = true
@@ -90,9 +85,3 @@ abbrev pub lists_services : BlockKind → Bool
 lists_services ServiceEscalation = true
 lists_services ServiceDependency = true
 lists_services _ = false
-
--- whether blocks of the type say nothing of notifications: they are passed over
-abbrev pub means_nothing : BlockKind → Bool
-means_nothing HostExtInfo = true
-means_nothing ServiceExtInfo = true
-means_nothing _ = false

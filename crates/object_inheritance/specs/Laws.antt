@@ -2,7 +2,7 @@
 use Rattle.std.specs.Prelude.{◌≡◌, ℕ, ◌≤◌, false, List, [], length, None, Some, codes}
 use Rattle.std.specs.Option.{option_map}
 use Rattle.object_reader.specs.declared.block.Block.{Block}
-use Rattle.object_inheritance.specs.Inherited.{given, is_additive, list, own, own_entries, value}
+use Rattle.object_inheritance.specs.claims.Inherited.{given, is_additive, list, own, own_entries, value}
 
 -- A directive that a block gives itself never comes from a template.
 abbrev pub OwnValueWins : Type 0

@@ -1,9 +1,9 @@
+pub mod claims
 pub mod Templates
 pub mod Names
 pub mod Inherited
 pub mod Givers
 pub mod Faults
-pub mod Registered
 pub mod Columns
 pub mod Laws
 pub mod Kinds

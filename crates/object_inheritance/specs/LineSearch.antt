@@ -4,17 +4,17 @@ use Rattle.std.specs.Prelude.{◌≡◌, ℕ, ◌<◌, ◌≤◌, true, false, L
 use Rattle.std.specs.Map.{lookup}
 use Rattle.std.specs.Option.{option_map, option_or}
 use Rattle.std.specs.Str.{bytes_eq}
-use Rattle.object_inheritance.specs.DatedLines.{dated_line}
+use Rattle.object_inheritance.specs.claims.DatedLines.{dated_line}
 use Rattle.object_inheritance.specs.declared.dated_lines.Found.{Found}
 use Rattle.object_inheritance.specs.declared.dated_lines.Line.{Line}
 use Rattle.object_inheritance.specs.declared.dated_lines.LineMarks.{LineMarks}
 use Rattle.object_inheritance.specs.declared.dated_lines.Turn.{Turn}
 use Rattle.object_inheritance.specs.declared.dated_lines.Turn.TheVariants.{Enter, Leave}
-use Rattle.object_inheritance.specs.Inherited.{first_given, given, value}
-use Rattle.object_inheritance.specs.Templates.{template_graph}
+use Rattle.object_inheritance.specs.claims.Inherited.{first_given, given, value}
+use Rattle.object_inheritance.specs.claims.Templates.{template_graph}
 use Rattle.object_reader.specs.declared.block.Block.{Block}
 use Rattle.object_reader.specs.declared.block.Directive.{Directive}
-use Rattle.object_values.specs.Ranges.{is_dated}
+use Rattle.object_values.specs.claims.Ranges.{is_dated}
 
 -- ---- the lines that are noted
 

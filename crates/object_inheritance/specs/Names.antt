@@ -6,7 +6,7 @@ use Rattle.std.specs.Map.{lookup}
 use Rattle.std.specs.Option.{option_map_or}
 use Rattle.std.specs.Str.{bytes_eq}
 use Rattle.object_reader.specs.declared.block.Block.{Block}
-use Rattle.object_inheritance.specs.Templates.{kind_number, template_name}
+use Rattle.object_inheritance.specs.claims.Templates.{kind_number, template_name}
 
 -- the number of a type, and a name
 abbrev pub Key : Type 0

@@ -4,13 +4,15 @@
 ghost use Rattle.std.specs.Prelude.{◌≡◌, ℕ, ◌<◌, ◌≤◌, ◌==◌, ◌++◌, ◌∷◌, List, [], length, map};
 ghost use Rattle.std.specs.Prelude.{None, Some, replicate, reverse, slice_index_or, slice_set, IfOk, OnOk};
 ghost use Rattle.std.specs.Option.{option_or};
-ghost use Rattle.object_inheritance.specs.DatedLines.{dated_line, named, AreLines};
-ghost use Rattle.object_inheritance.specs.Inherited.{AreInherited, own, value};
+ghost use Rattle.object_inheritance.specs.claims.DatedLines.{dated_line, AreLines};
+ghost use Rattle.object_inheritance.specs.DatedLines.{named};
+ghost use Rattle.object_inheritance.specs.claims.Inherited.{own, value};
+ghost use Rattle.object_inheritance.specs.Inherited.{AreInherited};
 ghost use Rattle.object_inheritance.specs.LineSearch.{AreMarks, IsFound, IsNextTurn, IsSearch};
 ghost use Rattle.object_inheritance.specs.LineSearch.{IsTurn, noted, said_by, used_at};
 ghost use Rattle.object_inheritance.specs.declared.dated_lines.Turn.TheVariants.{Enter, Leave};
-ghost use Rattle.object_inheritance.specs.Templates.{template_graph};
-ghost use Rattle.object_values.specs.Values.{value_in};
+ghost use Rattle.object_inheritance.specs.claims.Templates.{template_graph};
+ghost use Rattle.object_values.specs.claims.Values.{value_in};
 
 use crate::templates::Templates;
 use graph::edges::Graph;

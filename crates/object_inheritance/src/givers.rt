@@ -6,8 +6,8 @@ ghost use Rattle.std.specs.Prelude.{if◌then◌else◌, slice_get, IfNone, IfSo
 ghost use Rattle.std.specs.Option.{option_or};
 ghost use Rattle.std.specs.Str.{bytes_eq};
 ghost use Rattle.object_inheritance.specs.Givers.{last_at, own_in, text_at};
-ghost use Rattle.object_inheritance.specs.Inherited.{own};
-ghost use Rattle.object_values.specs.Values.{value_in};
+ghost use Rattle.object_inheritance.specs.claims.Inherited.{own};
+ghost use Rattle.object_values.specs.claims.Values.{value_in};
 
 use indexmap::IndexMap;
 use object_reader::block::Block;

@@ -4,11 +4,13 @@ ghost use Rattle.std.specs.Prelude.{◌≡◌};
 ghost use Rattle.object_inheritance.specs.Kinds.{has_contacts, is_contact, is_contact_group};
 ghost use Rattle.object_inheritance.specs.Kinds.{is_dependency};
 ghost use Rattle.object_inheritance.specs.Kinds.{is_escalation, is_group, is_host, is_host_group};
-ghost use Rattle.object_inheritance.specs.Kinds.{is_host_or_service, is_period, is_service};
+ghost use Rattle.object_inheritance.specs.claims.Kinds.{is_period};
+ghost use Rattle.object_inheritance.specs.Kinds.{is_host_or_service, is_service};
 ghost use Rattle.object_inheritance.specs.Kinds.{is_service_dependency, is_service_group};
 ghost use Rattle.object_inheritance.specs.Kinds.{lists_hosts};
-ghost use Rattle.object_inheritance.specs.Kinds.{lists_services, means_nothing};
-ghost use Rattle.object_inheritance.specs.Templates.{kind_number};
+ghost use Rattle.object_inheritance.specs.claims.Kinds.{means_nothing};
+ghost use Rattle.object_inheritance.specs.Kinds.{lists_services};
+ghost use Rattle.object_inheritance.specs.claims.Templates.{kind_number};
 
 use object_reader::block::BlockKind;
 

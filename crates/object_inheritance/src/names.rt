@@ -5,7 +5,7 @@ ghost use Rattle.std.specs.Prelude.{IfOk, IfSome, OnOk};
 ghost use Rattle.std.specs.Option.{option_copied};
 ghost use Rattle.object_reader.specs.declared.block.Block.{Block};
 ghost use Rattle.object_inheritance.specs.Names.{HasFirsts};
-ghost use Rattle.object_inheritance.specs.Templates.{template_name, template_place, used_names};
+ghost use Rattle.object_inheritance.specs.claims.Templates.{template_name, template_place, used_names};
 ghost use Rattle.object_values.specs.Values.{texts};
 
 use crate::kinds::{kind_number, means_nothing};

@@ -2,7 +2,7 @@
 
 ghost use Rattle.std.specs.Prelude.{◌≡◌};
 ghost use Rattle.std.specs.Option.{option_copied};
-ghost use Rattle.object_inheritance.specs.Registered.{registers};
+ghost use Rattle.object_inheritance.specs.claims.Registered.{registers};
 
 use object_values::values::number_in;
 

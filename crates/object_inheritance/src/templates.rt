@@ -5,14 +5,16 @@ ghost use Rattle.std.specs.Prelude.{false, length, All, Contains, None, IfErr, I
 ghost use Rattle.std.specs.Prelude.{slice_index_or, true, IfOk, IfSome, OnOk};
 ghost use Rattle.std.specs.Arc.{arc_value};
 ghost use Rattle.std.specs.Option.{option_map_or};
-ghost use Rattle.graph.specs.Chains.{HasNoLoop};
-ghost use Rattle.graph.specs.Edges.{Leads};
+ghost use Rattle.graph.specs.claims.Chains.{HasNoLoop};
+ghost use Rattle.graph.specs.claims.Edges.{Leads};
 ghost use Rattle.graph_order.specs.Loops.{IsFirstOnLoop};
 ghost use Rattle.graph_order.specs.Order.{HasLoop, IsOrder};
-ghost use Rattle.object_inheritance.specs.Faults.{AreFree, AreUses, fault_by, is_doubled};
-ghost use Rattle.object_inheritance.specs.Faults.{IsRefusal, uses_unknown};
+ghost use Rattle.object_inheritance.specs.claims.Faults.{AreFree, fault_by, is_doubled};
+ghost use Rattle.object_inheritance.specs.Faults.{AreUses};
+ghost use Rattle.object_inheritance.specs.claims.Faults.{uses_unknown};
+ghost use Rattle.object_inheritance.specs.Faults.{IsRefusal};
 ghost use Rattle.object_inheritance.specs.Inherited.{AreInherited, AreShort};
-ghost use Rattle.object_inheritance.specs.Templates.{template_graph};
+ghost use Rattle.object_inheritance.specs.claims.Templates.{template_graph};
 ghost use Rattle.object_inheritance.specs.declared.templates.InheritanceFault.TheVariants.{NoMemory};
 
 use crate::givers::Givers;

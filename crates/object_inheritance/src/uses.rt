@@ -4,8 +4,9 @@ ghost use Rattle.std.specs.Prelude.{◌≡◌, ℕ, ◌^◌, ◌<◌, ◌++◌, 
 ghost use Rattle.std.specs.Prelude.{slice_index_or, All, IfOk, OnOk, [], is_none};
 ghost use Rattle.std.specs.Option.{option_to_list};
 ghost use Rattle.graph.specs.Edges.{ends_of, IsWithin};
-ghost use Rattle.object_inheritance.specs.Faults.{uses_unknown};
-ghost use Rattle.object_inheritance.specs.Templates.{edge_from, template_graph, templates_of};
+ghost use Rattle.object_inheritance.specs.claims.Faults.{uses_unknown};
+ghost use Rattle.object_inheritance.specs.claims.Templates.{template_graph, templates_of};
+ghost use Rattle.object_inheritance.specs.Templates.{edge_from};
 
 use crate::names::{TemplateNames, used_names};
 use graph::edges::{Edge, Graph};

@@ -6,15 +6,17 @@ use Rattle.std.proofs.lemmas.Bool.{and_parts, cases_lt, false≢true}
 use Rattle.std.proofs.lemmas.List.{get_or_append_left, get_or_past, length-append}
 use Rattle.std.proofs.lemmas.Option.{none-some}
 use Rattle.std.proofs.Math.Seq.{get_or-append_seam}
-use Rattle.due_model.specs.Limits.{max_contacts}
+use Rattle.due_model.specs.claims.Limits.{max_contacts}
 use Rattle.due_model.specs.declared.config.ContactId.{ContactId}
 use Rattle.lemmas.proofs.Elements.{Contains-none}
-use Rattle.object_groups.specs.Groups.{group_kind, GroupsOf, object_kind}
-use Rattle.object_groups.specs.Names.{Lists}
-use Rattle.object_groups.specs.Objects.{names_in}
-use Rattle.object_inheritance.specs.Inherited.{given, list_given}
+use Rattle.object_groups.specs.claims.Groups.{group_kind, object_kind}
+use Rattle.object_groups.specs.Groups.{GroupsOf}
+use Rattle.object_groups.specs.claims.Names.{Lists}
+use Rattle.object_groups.specs.claims.Objects.{names_in}
+use Rattle.object_inheritance.specs.claims.Inherited.{given, list_given}
 use Rattle.object_listing.specs.Contacts.{AddsList, AreContactsAt, AreFound, AreOfContacts, Entries, HasList, HasLists, HasListsBelow, IsAsked, IsAskedList, IsListOf, pair_eq, Stay}
-use Rattle.object_listing.specs.Listing.{AreOrigins, AreThose, contact_directives, Directives, gives_neither, IsListed, ListingOf}
+use Rattle.object_listing.specs.claims.Listing.{AreThose, contact_directives, Directives, gives_neither, IsListed}
+use Rattle.object_listing.specs.Listing.{AreOrigins, ListingOf}
 use Rattle.object_listing.proofs.ListedLemmas.{lists-none}
 use Rattle.object_reader.specs.declared.block.Block.{Block}
 use Rattle.object_reader.specs.declared.block.BlockKind.TheVariants.{Contact}

@@ -8,13 +8,16 @@ use Rattle.std.proofs.lemmas.List.{get_or_past, take_more}
 use Rattle.std.proofs.lemmas.List.Elements.{All-from_get_or, Contains-append_left, Contains-append_right, Contains-append_cases, Contains-get_or}
 use Rattle.object_reader.specs.declared.block.Block.{Block}
 use Rattle.object_groups.specs.declared.groups.GroupKind.{GroupKind}
-use Rattle.object_groups.specs.Groups.{group_kind, grouping, GroupsOf, object_kind, own_groups_directive}
-use Rattle.object_groups.specs.Members.{Holds, IsMember}
-use Rattle.object_groups.specs.Names.{is_all, Lists, numbers_of}
-use Rattle.object_groups.specs.Objects.{list_at, lists_in, names_in, ObjectsOf}
+use Rattle.object_groups.specs.claims.Groups.{group_kind, grouping, object_kind, own_groups_directive}
+use Rattle.object_groups.specs.Groups.{GroupsOf}
+use Rattle.object_groups.specs.claims.Members.{Holds, IsMember}
+use Rattle.object_groups.specs.claims.Names.{is_all, Lists, numbers_of}
+use Rattle.object_groups.specs.claims.Objects.{list_at, lists_in, names_in}
+use Rattle.object_groups.specs.Objects.{ObjectsOf}
 use Rattle.object_groups.specs.ObjectLaws.{listed-within as lists-within, lists-long, numbers-within}
 use Rattle.object_inheritance.specs.Columns.{Column}
-use Rattle.object_listing.specs.Listing.{Adds, AreThose, Directives, IsListed}
+use Rattle.object_listing.specs.claims.Listing.{AreThose, Directives, IsListed}
+use Rattle.object_listing.specs.Listing.{Adds}
 use Rattle.lemmas.proofs.Elements.{Contains-cases, Contains-from_range, Contains-here, Contains-none, Contains-range}
 
 -- ---- lists

@@ -3,12 +3,13 @@
 use Rattle.std.specs.Prelude.{◌≡◌, ℕ, ◌<◌, ◌≤◌, Bool, true, false, ◌&&◌, ◌==◌, ◌⊎◌, List, [], length, map, is_none, Option, None, Some, IfSome, slice_index_or}
 use Rattle.std.specs.Map.{lookup}
 use Rattle.std.proofs.Common.{Global, Vec}
-use Rattle.due_model.specs.Limits.{max_contacts}
+use Rattle.due_model.specs.claims.Limits.{max_contacts}
 use Rattle.due_model.specs.declared.config.ContactId.{ContactId}
 use Rattle.object_groups.specs.declared.groups.GroupKind.TheVariants.{ContactGroups}
 use Rattle.object_groups.specs.Groups.{GroupsOf}
-use Rattle.object_groups.specs.Objects.{names_in}
-use Rattle.object_listing.specs.Listing.{AreOrigins, AreThose, contact_directives, gives_neither, IsListed, ListingOf}
+use Rattle.object_groups.specs.claims.Objects.{names_in}
+use Rattle.object_listing.specs.claims.Listing.{AreThose, contact_directives, gives_neither, IsListed}
+use Rattle.object_listing.specs.Listing.{AreOrigins, ListingOf}
 use Rattle.object_reader.specs.declared.block.Block.{Block}
 use Rattle.object_reader.specs.declared.block.BlockKind.TheVariants.{Contact}
 

@@ -1,11 +1,11 @@
 -- Laws of what blocks list, of any blocks.
 use Rattle.std.specs.Prelude.{ℕ, ◌<◌, List, length, Contains}
 use Rattle.object_reader.specs.declared.block.Block.{Block}
-use Rattle.object_groups.specs.Groups.{group_kind, grouping, object_kind}
-use Rattle.object_groups.specs.Members.{IsMember}
-use Rattle.object_groups.specs.Names.{Lists}
-use Rattle.object_groups.specs.Objects.{list_at, names_in}
-use Rattle.object_listing.specs.Listing.{AreThose, Directives, IsListed}
+use Rattle.object_groups.specs.claims.Groups.{group_kind, grouping, object_kind}
+use Rattle.object_groups.specs.claims.Members.{IsMember}
+use Rattle.object_groups.specs.claims.Names.{Lists}
+use Rattle.object_groups.specs.claims.Objects.{list_at, names_in}
+use Rattle.object_listing.specs.claims.Listing.{AreThose, Directives, IsListed}
 
 -- An object that the list of objects names is there.
 abbrev pub NamedAreThere : Type 0

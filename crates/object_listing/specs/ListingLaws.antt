@@ -2,7 +2,7 @@
 use Rattle.std.proofs.Common.{List, ℕ, ◌≡◌}
 use Rattle.std.proofs.lemmas.List.Kept.{AllPairs-from_increasing}
 use Rattle.lemmas.proofs.Rising.{rising-one}
-use Rattle.object_listing.specs.Listing.{AreThose}
+use Rattle.object_listing.specs.claims.Listing.{AreThose}
 
 pub those-one : (P : ℕ → Type 0) (xs ys : List ℕ) → AreThose P xs → AreThose P ys → xs ≡ ys
 those-one P xs ys one other =

@@ -1,7 +1,7 @@
 -- What periods that blocks name are found in.
 use Rattle.std.specs.Prelude.{◌≡◌, ℕ, ◌≤◌, List, length}
-use Rattle.due_model.specs.Limits.{max_periods}
-use Rattle.object_groups.specs.Objects.{names_in}
+use Rattle.due_model.specs.claims.Limits.{max_periods}
+use Rattle.object_groups.specs.claims.Objects.{names_in}
 use Rattle.object_reader.specs.declared.block.Block.{Block}
 use Rattle.object_reader.specs.declared.block.BlockKind.TheVariants.{TimePeriod}
 

@@ -4,13 +4,13 @@ use Rattle.std.specs.Prelude.{ℕ, List, Option}
 use Rattle.std.specs.Option.{option_and_then, option_map}
 use Rattle.due_model.specs.declared.config.PeriodId.{PeriodId}
 use Rattle.due_model.specs.declared.options.OptionLetters.{OptionLetters}
-use Rattle.object_groups.specs.Objects.{names_in}
-use Rattle.object_inheritance.specs.Inherited.{name_of, own, own_entries}
+use Rattle.object_groups.specs.claims.Objects.{names_in}
+use Rattle.object_inheritance.specs.claims.Inherited.{name_of, own, own_entries}
 use Rattle.object_reader.specs.declared.block.Block.{Block}
 use Rattle.object_reader.specs.declared.block.BlockKind.TheVariants.{TimePeriod}
-use Rattle.object_listing.specs.Readings.{period_named}
-use Rattle.object_values.specs.Options.{options_in}
-use Rattle.object_values.specs.Values.{number_in}
+use Rattle.object_listing.specs.claims.Readings.{period_named}
+use Rattle.object_values.specs.claims.Options.{options_in}
+use Rattle.object_values.specs.claims.Values.{number_in}
 use Rattle.object_values.specs.declared.options.OptionKind.{OptionKind}
 
 -- a number

@@ -4,9 +4,9 @@ use Rattle.std.specs.Prelude.{nat_eq}
 use Rattle.std.specs.Option.{IfSome, option_map}
 use Rattle.std.specs.Str.{bytes_eq}
 use Rattle.lemmas.proofs.Searches.{position-within}
-use Rattle.object_groups.specs.Names.{number_of}
-use Rattle.object_inheritance.specs.Inherited.{name}
-use Rattle.object_listing.specs.Readings.{period_named, period_of}
+use Rattle.object_groups.specs.claims.Names.{number_of}
+use Rattle.object_inheritance.specs.claims.Inherited.{name}
+use Rattle.object_listing.specs.claims.Readings.{period_named, period_of}
 
 -- a period by its name is there
 pub period-few : (periods : List (List ℕ)) (text : List ℕ) → IfSome (period_named periods text) (λ p. p.0 < length periods)

@@ -2,13 +2,13 @@
 
 ghost use Rattle.std.specs.Prelude.{◌≡◌, ◌<◌, ◌≤◌};
 ghost use Rattle.std.specs.Prelude.{length, map, slice_index_or, None, All, IfOk};
-ghost use Rattle.due_model.specs.Limits.{max_contacts};
+ghost use Rattle.due_model.specs.claims.Limits.{max_contacts};
 ghost use Rattle.object_groups.specs.declared.groups.GroupKind.TheVariants.{ContactGroups};
-ghost use Rattle.object_groups.specs.Objects.{names_in};
+ghost use Rattle.object_groups.specs.claims.Objects.{names_in};
 ghost use Rattle.object_listing.specs.Contacts.{AddsList, AreContactsAt, AreFound, AreOfContacts};
 ghost use Rattle.object_listing.specs.Contacts.{IsAsked, lists_in};
-ghost use Rattle.object_listing.specs.Listing.{AreThose, contact_directives, gives_neither};
-ghost use Rattle.object_listing.specs.Listing.{IsListed};
+ghost use Rattle.object_listing.specs.claims.Listing.{AreThose, contact_directives, gives_neither};
+ghost use Rattle.object_listing.specs.claims.Listing.{IsListed};
 ghost use Rattle.object_reader.specs.declared.block.BlockKind.TheVariants.{Contact};
 
 use crate::listing::Listing;

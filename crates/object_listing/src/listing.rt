@@ -1,10 +1,11 @@
 //! What blocks list by two directives.
 
 ghost use Rattle.std.specs.Prelude.{◌≡◌, ◌<◌, length, All, IfOk};
-ghost use Rattle.object_groups.specs.Groups.{object_kind};
-ghost use Rattle.object_groups.specs.Objects.{names_in};
-ghost use Rattle.object_listing.specs.Listing.{AreGivers, AreOrigins, AreThose, gives_neither};
-ghost use Rattle.object_listing.specs.Listing.{IsListed};
+ghost use Rattle.object_groups.specs.claims.Groups.{object_kind};
+ghost use Rattle.object_groups.specs.claims.Objects.{names_in};
+ghost use Rattle.object_listing.specs.claims.Listing.{AreThose, gives_neither};
+ghost use Rattle.object_listing.specs.Listing.{AreGivers, AreOrigins};
+ghost use Rattle.object_listing.specs.claims.Listing.{IsListed};
 
 use crate::numbers::{listed, push_groups, put_in_order};
 use object_groups::groups::{GroupKind, Groups};

@@ -4,9 +4,9 @@ ghost use Rattle.std.specs.Prelude.{◌≡◌, ℕ, ◌++◌, ◌↔◌, true, f
 ghost use Rattle.std.specs.Prelude.{Contains, IfOk, OnErr, OnOk};
 ghost use Rattle.std.specs.List.{range_with_len};
 ghost use Rattle.std.specs.List.Sorted.{IsPermutation, IsStrictlyIncreasing};
-ghost use Rattle.object_groups.specs.Groups.{grouping};
-ghost use Rattle.object_groups.specs.Members.{IsMember};
-ghost use Rattle.object_groups.specs.Names.{Lists};
+ghost use Rattle.object_groups.specs.claims.Groups.{grouping};
+ghost use Rattle.object_groups.specs.claims.Members.{IsMember};
+ghost use Rattle.object_groups.specs.claims.Names.{Lists};
 ghost use Rattle.object_listing.specs.Listing.{Adds};
 ghost use Rattle.object_values.specs.Values.{texts};
 

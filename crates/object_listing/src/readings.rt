@@ -1,11 +1,11 @@
 //! The values that a block has: its own, or those that it takes from a template.
 
 ghost use Rattle.std.specs.Prelude.{◌≡◌, ◌≤◌, length};
-ghost use Rattle.due_model.specs.Limits.{max_periods};
-ghost use Rattle.object_listing.specs.Readings.{is_on, letters_at, letters_or, number_at};
-ghost use Rattle.object_listing.specs.Readings.{own_number};
-ghost use Rattle.object_listing.specs.Readings.{own_period};
-ghost use Rattle.object_listing.specs.Readings.{own_states, period_at, period_named};
+ghost use Rattle.due_model.specs.claims.Limits.{max_periods};
+ghost use Rattle.object_listing.specs.claims.Readings.{is_on, letters_at, letters_or, number_at};
+ghost use Rattle.object_listing.specs.claims.Readings.{own_number};
+ghost use Rattle.object_listing.specs.claims.Readings.{own_period};
+ghost use Rattle.object_listing.specs.claims.Readings.{own_states, period_at, period_named};
 
 use due_model::config::PeriodId;
 use due_model::options::OptionLetters;

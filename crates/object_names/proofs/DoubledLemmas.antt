@@ -13,16 +13,20 @@ use Rattle.std.proofs.lemmas.Slice.Eq.{bytes_eq-Decides}
 use Rattle.lemmas.proofs.Elements.{Contains-cases, Contains-filter, Contains-from_filter, Contains-here, Contains-none, Contains-range}
 use Rattle.lemmas.proofs.Lists.{range_increases}
 use Rattle.lemmas.proofs.Searches.{place-le}
-use Rattle.object_groups.specs.Names.{is_doubled, number_of}
-use Rattle.object_groups.specs.Objects.{is_object, is_object_at, name_at, names_in, objects_in}
+use Rattle.object_groups.specs.claims.Names.{number_of}
+use Rattle.object_groups.specs.Names.{is_doubled}
+use Rattle.object_groups.specs.claims.Objects.{is_object, is_object_at, name_at, names_in, objects_in}
 use Rattle.object_reader.specs.declared.block.Block.{Block}
 use Rattle.object_reader.specs.declared.block.BlockKind.{BlockKind}
 use Rattle.object_groups.specs.Objects.{ObjectsOf}
 use Rattle.object_names.specs.declared.named.NamedKind.{NamedKind}
 use Rattle.object_names.specs.declared.named.NamedKind.TheVariants.{Host, HostGroup, ServiceGroup, Contact, ContactGroup, TimePeriod, Command}
-use Rattle.object_names.specs.Doubled.{IsDoubled, IsDoubledAmong, IsDoubledOf}
-use Rattle.object_groups.specs.First.{IsFirst, lower}
-use Rattle.object_names.specs.Named.{all_kinds, block_kind}
+use Rattle.object_names.specs.claims.Doubled.{IsDoubled, IsDoubledOf}
+use Rattle.object_names.specs.Doubled.{IsDoubledAmong}
+use Rattle.object_groups.specs.claims.First.{IsFirst}
+use Rattle.object_groups.specs.First.{lower}
+use Rattle.object_names.specs.claims.Named.{block_kind}
+use Rattle.object_names.specs.Named.{all_kinds}
 use Rattle.object_groups.specs.FirstLaws.{first-either, first-same}
 
 -- ---- places in lists of names

@@ -9,18 +9,21 @@ use Rattle.std.proofs.lemmas.List.Folds.{list_any-append}
 use Rattle.lemmas.proofs.Lists.{at-within}
 use Rattle.lemmas.proofs.Writes.{at_set}
 use Rattle.object_inheritance.specs.Columns.{Column}
-use Rattle.object_inheritance.specs.Inherited.{given, list_given, name_of}
+use Rattle.object_inheritance.specs.claims.Inherited.{given, list_given, name_of}
 use Rattle.object_reader.specs.declared.block.Block.{Block}
 use Rattle.object_reader.specs.declared.block.BlockKind.{BlockKind}
 use Rattle.object_reader.specs.declared.block.BlockKind.TheVariants.{Host, HostGroup, Service, ServiceGroup, Contact, ContactGroup, TimePeriod, Command, HostEscalation, ServiceEscalation, HostDependency, ServiceDependency, HostExtInfo, ServiceExtInfo}
-use Rattle.object_values.specs.Values.{command_name}
+use Rattle.object_values.specs.claims.Values.{command_name}
 use Rattle.object_names.specs.declared.references.Reading.{Reading}
 use Rattle.object_names.specs.declared.references.Reading.TheVariants.{NamesOrAll, Names, Period, Commands}
 use Rattle.object_names.specs.declared.references.Reference.{Reference}
-use Rattle.object_groups.specs.Names.{has_unknown, lacks_any}
-use Rattle.object_groups.specs.First.{IsFirst, lower}
-use Rattle.object_names.specs.References.{all_references, is_reference_of, references}
-use Rattle.object_names.specs.Unknown.{AreFound, has_unknown_by, HasUnknown, HasUnknownAmong, is_registered, is_unknown, is_unknown_by, lacks_period, names_unknown, names_unknown_by}
+use Rattle.object_groups.specs.claims.Names.{has_unknown, lacks_any}
+use Rattle.object_groups.specs.claims.First.{IsFirst}
+use Rattle.object_groups.specs.First.{lower}
+use Rattle.object_names.specs.claims.References.{references}
+use Rattle.object_names.specs.References.{all_references, is_reference_of}
+use Rattle.object_names.specs.claims.Unknown.{HasUnknown, is_registered, is_unknown, is_unknown_by, lacks_period, names_unknown}
+use Rattle.object_names.specs.Unknown.{AreFound, has_unknown_by, HasUnknownAmong, names_unknown_by}
 use Rattle.object_groups.specs.FirstLaws.{first-either, first-same}
 
 -- ---- the blocks one after another

@@ -1,3 +1,4 @@
+pub mod claims
 pub mod Named
 pub mod Doubled
 pub mod References

@@ -1,7 +1,8 @@
 //! Objects that have the name of another of their type.
 
-ghost use Rattle.object_names.specs.Doubled.{IsDoubled, IsDoubledAmong, IsDoubledOf};
-ghost use Rattle.object_groups.specs.First.{IsFirst};
+ghost use Rattle.object_names.specs.claims.Doubled.{IsDoubled, IsDoubledOf};
+ghost use Rattle.object_names.specs.Doubled.{IsDoubledAmong};
+ghost use Rattle.object_groups.specs.claims.First.{IsFirst};
 
 use crate::named::{NamedKind, NamedObjects};
 use object_groups::first::lower;

@@ -1,7 +1,8 @@
 //! The objects that have a name of their own, type by type.
 
 ghost use Rattle.std.specs.Prelude.{◌≡◌, map, IfOk};
-ghost use Rattle.object_names.specs.Named.{block_kind, number_of_kind, objects_of};
+ghost use Rattle.object_names.specs.claims.Named.{block_kind};
+ghost use Rattle.object_names.specs.Named.{number_of_kind, objects_of};
 
 use object_groups::objects::Objects;
 use object_inheritance::templates::Templates;

@@ -2,8 +2,9 @@
 //! Escalations" and "Host and Service Dependencies").
 
 ghost use Rattle.std.specs.Prelude.{◌≡◌};
-ghost use Rattle.object_names.specs.References.{directive_of, is_reference_of, list_reading};
-ghost use Rattle.object_names.specs.References.{is_period_name, named_of, reading_of};
+ghost use Rattle.object_names.specs.claims.References.{directive_of, list_reading};
+ghost use Rattle.object_names.specs.References.{is_reference_of};
+ghost use Rattle.object_names.specs.claims.References.{is_period_name, named_of, reading_of};
 
 use crate::named::NamedKind;
 use object_inheritance::kinds::{

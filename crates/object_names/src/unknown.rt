@@ -2,17 +2,20 @@
 
 ghost use Rattle.std.specs.Prelude.{◌≡◌, map, false, true, None, slice_index_or, IfOk, OnOk};
 ghost use Rattle.std.specs.Option.{option_copied};
-ghost use Rattle.object_inheritance.specs.Inherited.{name};
-ghost use Rattle.object_groups.specs.First.{IsFirst};
-ghost use Rattle.object_names.specs.Named.{block_kind};
-ghost use Rattle.object_names.specs.References.{directive_of, named_of, reading_of};
+ghost use Rattle.object_inheritance.specs.claims.Inherited.{name};
+ghost use Rattle.object_groups.specs.claims.First.{IsFirst};
+ghost use Rattle.object_names.specs.claims.Named.{block_kind};
+ghost use Rattle.object_names.specs.claims.References.{directive_of, named_of, reading_of};
 ghost use Rattle.object_names.specs.Unknown.{AreFound};
-ghost use Rattle.object_names.specs.Unknown.{HasUnknown, HasUnknownAmong, has_unknown_by};
-ghost use Rattle.object_names.specs.Unknown.{is_registered};
-ghost use Rattle.object_groups.specs.Names.{lacks_any};
-ghost use Rattle.object_names.specs.Unknown.{is_unknown, lacks_period, names_unknown_by};
-ghost use Rattle.object_groups.specs.Objects.{names_in};
-ghost use Rattle.object_values.specs.Values.{command_name, texts};
+ghost use Rattle.object_names.specs.claims.Unknown.{HasUnknown};
+ghost use Rattle.object_names.specs.Unknown.{HasUnknownAmong, has_unknown_by};
+ghost use Rattle.object_names.specs.claims.Unknown.{is_registered};
+ghost use Rattle.object_groups.specs.claims.Names.{lacks_any};
+ghost use Rattle.object_names.specs.claims.Unknown.{is_unknown, lacks_period};
+ghost use Rattle.object_names.specs.Unknown.{names_unknown_by};
+ghost use Rattle.object_groups.specs.claims.Objects.{names_in};
+ghost use Rattle.object_values.specs.claims.Values.{command_name};
+ghost use Rattle.object_values.specs.Values.{texts};
 
 use crate::named::NamedObjects;
 use crate::references::{Reading, Reference, directive_of, is_reference_of, named_of, reading_of};

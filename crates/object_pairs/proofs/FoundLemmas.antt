@@ -10,9 +10,10 @@ use Rattle.std.proofs.lemmas.List.Folds.{list_any-append}
 use Rattle.std.proofs.lemmas.Slice.Eq.{bytes_eq-Decides}
 use Rattle.lemmas.proofs.Elements.{Contains-cases, Contains-here, Contains-later, Contains-none}
 use Rattle.object_reader.specs.declared.block.Block.{Block}
-use Rattle.object_services.specs.Doubled.{description_of, place_of}
-use Rattle.object_services.specs.Hosts.{AreHosts, HasHost}
-use Rattle.object_services.specs.Numbers.{Key, Pair}
+use Rattle.object_services.specs.claims.Doubled.{description_of, place_of}
+use Rattle.object_services.specs.claims.Hosts.{AreHosts, HasHost}
+use Rattle.object_services.specs.claims.Numbers.{Pair}
+use Rattle.object_services.specs.Numbers.{Key}
 use Rattle.object_pairs.specs.Wanted.{adds, AddsFound, AreFound, AreFoundBelow, has, HasServiceBelow}
 use Rattle.object_pairs.proofs.PairLemmas.{Text}
 use Rattle.object_pairs.proofs.WantedLemmas.{has-insert, Inserts}

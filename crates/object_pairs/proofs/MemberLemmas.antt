@@ -2,9 +2,9 @@
 use Rattle.std.proofs.Common.{◌≡◌, ℕ, List, [], Option, Some, None, ap, ◌∙◌}
 use Rattle.std.specs.Prelude.{filter_map, unwrap_or}
 use Rattle.std.specs.Option.{option_map}
-use Rattle.object_services.specs.Numbers.{Pair}
-use Rattle.object_pairs.specs.Members.{place_of_pair, places_of}
-use Rattle.object_pairs.specs.Pairs.{by_two, NamedPair}
+use Rattle.object_services.specs.claims.Numbers.{Pair}
+use Rattle.object_pairs.specs.claims.Members.{place_of_pair, places_of}
+use Rattle.object_pairs.specs.claims.Pairs.{by_two, NamedPair}
 
 pub places-odd : (hosts : List (List ℕ)) (services : List Pair) (members : List (List ℕ)) (places : List ℕ) → places ≡ [] → None ≡ by_two members → places ≡ places_of hosts services members
 places-odd hosts services members places none is =

@@ -6,7 +6,8 @@ use Rattle.std.proofs.lemmas.Bool.{false≢true}
 use Rattle.std.proofs.lemmas.List.{append-nil, map-append, take_more, take_rest}
 use Rattle.std.proofs.lemmas.List.Elements.{filter_map-append}
 use Rattle.lemmas.proofs.Searches.{found-one}
-use Rattle.object_pairs.specs.Pairs.{by_two, NamedPair, pairs_in}
+use Rattle.object_pairs.specs.claims.Pairs.{by_two, NamedPair}
+use Rattle.object_pairs.specs.Pairs.{pairs_in}
 use Rattle.object_values.specs.Values.{texts}
 
 abbrev pub Text : Type 0

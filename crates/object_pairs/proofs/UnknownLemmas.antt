@@ -9,15 +9,17 @@ use Rattle.std.proofs.lemmas.List.Folds.{list_all-append, list_all-map, list_all
 use Rattle.std.proofs.lemmas.List.Kept.{AllPairs-filter}
 use Rattle.lemmas.proofs.Elements.{Contains-filter, Contains-from_filter, Contains-here, Contains-later, Contains-range}
 use Rattle.lemmas.proofs.Lists.{range_increases}
-use Rattle.object_groups.specs.Names.{number_of}
-use Rattle.object_groups.specs.Objects.{is_object, is_object_at, list_at, names_in, objects_in, ObjectsOf}
+use Rattle.object_groups.specs.claims.Names.{number_of}
+use Rattle.object_groups.specs.claims.Objects.{is_object, is_object_at, list_at, names_in, objects_in}
+use Rattle.object_groups.specs.Objects.{ObjectsOf}
 use Rattle.object_inheritance.specs.Columns.{Column}
-use Rattle.object_groups.specs.First.{IsFirst}
+use Rattle.object_groups.specs.claims.First.{IsFirst}
 use Rattle.object_reader.specs.declared.block.Block.{Block}
 use Rattle.object_reader.specs.declared.block.BlockKind.TheVariants.{Host, ServiceGroup}
 use Rattle.object_services.specs.Numbers.{Key}
-use Rattle.object_pairs.specs.Members.{AreServicePairs, HasUnknownMember, IsServicePair}
-use Rattle.object_pairs.specs.Pairs.{by_two, NamedPair, pairs_in}
+use Rattle.object_pairs.specs.claims.Members.{AreServicePairs, HasUnknownMember, IsServicePair}
+use Rattle.object_pairs.specs.claims.Pairs.{by_two, NamedPair}
+use Rattle.object_pairs.specs.Pairs.{pairs_in}
 use Rattle.object_pairs.specs.Wanted.{AreAllWanted, AreFound, AreWanted, has, is_found, IsWanted, lacks_at, lacks_pair, LacksPair}
 use Rattle.object_pairs.proofs.PairLemmas.{front-more, Text}
 

@@ -8,11 +8,13 @@ use Rattle.std.proofs.lemmas.List.{take_more}
 use Rattle.std.proofs.lemmas.List.Elements.{All-append, All-cons, All-nil, All-weaker}
 use Rattle.std.proofs.lemmas.Option.{none-some, same_Some}
 use Rattle.lemmas.proofs.Lists.{none-marked}
-use Rattle.object_groups.specs.Names.{number_of}
-use Rattle.object_groups.specs.Objects.{list_at}
+use Rattle.object_groups.specs.claims.Names.{number_of}
+use Rattle.object_groups.specs.claims.Objects.{list_at}
 use Rattle.object_inheritance.specs.Columns.{Column}
-use Rattle.object_services.specs.Numbers.{Key, Pair}
-use Rattle.object_pairs.specs.Pairs.{by_two, NamedPair, pairs_in}
+use Rattle.object_services.specs.claims.Numbers.{Pair}
+use Rattle.object_services.specs.Numbers.{Key}
+use Rattle.object_pairs.specs.claims.Pairs.{by_two, NamedPair}
+use Rattle.object_pairs.specs.Pairs.{pairs_in}
 use Rattle.object_pairs.specs.Wanted.{AreAllWanted, AreMarked, AreWanted, AreWantedAt, has, IsWanted, Keeps}
 use Rattle.object_pairs.proofs.PairLemmas.{front-more, Text}
 

@@ -1,3 +1,3 @@
+pub mod claims
 pub mod Pairs
-pub mod Members
 pub mod Wanted

@@ -4,15 +4,16 @@ use Rattle.std.specs.Prelude.{◌≡◌, ℕ, ◌<◌, Bool, true, false, not, �
 use Rattle.std.specs.List.{list_all, list_any}
 use Rattle.std.specs.Option.{option_map_or}
 use Rattle.std.specs.Str.{bytes_eq}
-use Rattle.object_groups.specs.Names.{number_of}
-use Rattle.object_groups.specs.Objects.{is_object_at, list_at, names_in}
+use Rattle.object_groups.specs.claims.Names.{number_of}
+use Rattle.object_groups.specs.claims.Objects.{is_object_at, list_at, names_in}
 use Rattle.object_inheritance.specs.Columns.{Column}
 use Rattle.object_reader.specs.declared.block.Block.{Block}
 use Rattle.object_reader.specs.declared.block.BlockKind.TheVariants.{Service, ServiceGroup}
-use Rattle.object_services.specs.Doubled.{description_of, place_of}
-use Rattle.object_services.specs.Hosts.{HasHost}
-use Rattle.object_services.specs.Numbers.{Key, Pair}
-use Rattle.object_pairs.specs.Pairs.{by_two, NamedPair}
+use Rattle.object_services.specs.claims.Doubled.{description_of, place_of}
+use Rattle.object_services.specs.claims.Hosts.{HasHost}
+use Rattle.object_services.specs.claims.Numbers.{Pair}
+use Rattle.object_services.specs.Numbers.{Key}
+use Rattle.object_pairs.specs.claims.Pairs.{by_two, NamedPair}
 
 -- whether a set has a host with a description
 abbrev pub has : List Key → Pair → Bool

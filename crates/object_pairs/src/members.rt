@@ -2,7 +2,7 @@
 
 ghost use Rattle.std.specs.Prelude.{◌≡◌, ◌++◌, filter_map, IfOk, OnOk};
 ghost use Rattle.std.specs.Option.{option_to_list};
-ghost use Rattle.object_pairs.specs.Members.{place_of_pair, places_of};
+ghost use Rattle.object_pairs.specs.claims.Members.{place_of_pair, places_of};
 ghost use Rattle.object_pairs.specs.Pairs.{pairs_in};
 ghost use Rattle.object_values.specs.Values.{texts};
 

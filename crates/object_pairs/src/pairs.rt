@@ -2,7 +2,8 @@
 
 ghost use Rattle.std.specs.Prelude.{◌≡◌, IfOk};
 ghost use Rattle.std.specs.Option.{option_map};
-ghost use Rattle.object_pairs.specs.Pairs.{by_two, pairs_in};
+ghost use Rattle.object_pairs.specs.claims.Pairs.{by_two};
+ghost use Rattle.object_pairs.specs.Pairs.{pairs_in};
 ghost use Rattle.object_values.specs.Values.{texts};
 
 use std::alloc::{AllocError, Global};

@@ -3,8 +3,8 @@
 ghost use Rattle.std.specs.Prelude.{◌≡◌, false, IfOk, OnOk};
 ghost use Rattle.std.specs.List.{list_all};
 ghost use Rattle.object_groups.specs.declared.groups.GroupKind.TheVariants.{HostGroups};
-ghost use Rattle.object_groups.specs.First.{IsFirst};
-ghost use Rattle.object_pairs.specs.Members.{HasUnknownMember};
+ghost use Rattle.object_groups.specs.claims.First.{IsFirst};
+ghost use Rattle.object_pairs.specs.claims.Members.{HasUnknownMember};
 ghost use Rattle.object_pairs.specs.Pairs.{pairs_in};
 ghost use Rattle.object_pairs.specs.Wanted.{AreMarked, is_found, lacks_at, LacksPair};
 ghost use Rattle.object_reader.specs.declared.block.BlockKind.TheVariants.{ServiceGroup};

@@ -8,7 +8,7 @@ use Rattle.std.proofs.lemmas.List.Elements.{filter_map-append}
 use Rattle.due_model.specs.declared.config.Dated.{Dated}
 use Rattle.object_inheritance.specs.DatedLines.{named}
 use Rattle.object_inheritance.specs.declared.dated_lines.Line.{Line}
-use Rattle.object_periods.specs.Periods.{dated_in}
+use Rattle.object_periods.specs.claims.Periods.{dated_in}
 
 one : (found : Option Dated) → cons_option found [] ≡ option_to_list found
 one None = refl

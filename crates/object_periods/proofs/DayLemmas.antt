@@ -5,13 +5,14 @@ use Rattle.std.specs.List.{after_first, before_first, cons_option, slice_split}
 use Rattle.std.specs.Option.{IfSome}
 use Rattle.std.proofs.lemmas.List.{get_or-map, ext_get_or}
 use Rattle.std.proofs.lemmas.List.Elements.{All-cons, All-nil}
-use Rattle.due_model.specs.Accepted.{RangeFits}
+use Rattle.due_model.specs.claims.Accepted.{RangeFits}
 use Rattle.due_model.specs.declared.config.Range.{Range}
 use Rattle.object_inheritance.specs.Columns.{Column}
-use Rattle.object_periods.specs.Periods.{AreDays, column_of, line_ranges}
+use Rattle.object_periods.specs.claims.Periods.{line_ranges}
+use Rattle.object_periods.specs.Periods.{AreDays, column_of}
 use Rattle.object_reader.specs.declared.block.Block.{Block}
-use Rattle.object_values.specs.Ranges.{are_ranges, is_colon, is_dash, range_between, range_in, ranges_among, time_in, time_of, weekdays}
-use Rattle.object_values.specs.Values.{is_comma, number_in}
+use Rattle.object_values.specs.claims.Ranges.{are_ranges, is_colon, is_dash, range_between, range_in, ranges_among, time_in, time_of, weekdays}
+use Rattle.object_values.specs.claims.Values.{is_comma, number_in}
 
 -- what is kept of a weekday
 pub day-is : (blocks : List Block) (days : List Column) (weekday : ℕ) (x : Column) → AreDays blocks days → weekday < 7 → x ≡ get_or days weekday x

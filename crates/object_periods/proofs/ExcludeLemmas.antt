@@ -4,9 +4,9 @@ use Rattle.std.specs.Prelude.{All}
 use Rattle.std.specs.Str.{bytes_eq}
 use Rattle.std.proofs.lemmas.List.{length-map}
 use Rattle.lemmas.proofs.Searches.{All-found, position-within}
-use Rattle.object_groups.specs.Names.{number_of, numbers_of}
-use Rattle.object_groups.specs.Objects.{name_at, names_in, objects_in}
-use Rattle.object_periods.specs.Periods.{excluded_at}
+use Rattle.object_groups.specs.claims.Names.{number_of, numbers_of}
+use Rattle.object_groups.specs.claims.Objects.{name_at, names_in, objects_in}
+use Rattle.object_periods.specs.claims.Periods.{excluded_at}
 use Rattle.object_reader.specs.declared.block.Block.{Block}
 use Rattle.object_reader.specs.declared.block.BlockKind.TheVariants.{TimePeriod}
 

@@ -6,7 +6,7 @@ use Rattle.std.specs.Option.{IfSome}
 use Rattle.std.proofs.lemmas.List.{get_or-map, length-map}
 use Rattle.std.proofs.lemmas.List.Elements.{All-cons, All-map, All-nil}
 use Rattle.std.proofs.lemmas.Option.{slice_get-get_or, slice_get_within}
-use Rattle.due_model.specs.Accepted.{Excludes, HasNoLoop, PeriodFits, RangeFits}
+use Rattle.due_model.specs.claims.Accepted.{Excludes, HasNoLoop, PeriodFits, RangeFits}
 use Rattle.due_model.specs.declared.config.Config.{Config}
 use Rattle.due_model.specs.declared.config.Dated.{Dated}
 use Rattle.due_model.specs.declared.config.Period.{Period}
@@ -14,19 +14,20 @@ use Rattle.due_model.specs.declared.config.PeriodId.{PeriodId}
 use Rattle.due_model.specs.declared.config.Range.{Range}
 use Rattle.lemmas.proofs.Elements.{Contains-map}
 use Rattle.lemmas.proofs.Chains.{Chain-map}
-use Rattle.object_groups.specs.Objects.{names_in, objects_in}
-use Rattle.object_inheritance.specs.Inherited.{value}
+use Rattle.object_groups.specs.claims.Objects.{names_in, objects_in}
+use Rattle.object_inheritance.specs.claims.Inherited.{value}
 use Rattle.object_periods.specs.Laws.{NoLoopIsLeft, PeriodsFit}
-use Rattle.object_periods.specs.Loops.{ExcludesNumber, HasNoPeriodLoop}
-use Rattle.object_periods.specs.Periods.{AreDatedOf, ArePeriodsOf, dated_by, dated_in, excluded_at, line_ranges, ranges_at}
+use Rattle.object_periods.specs.claims.Loops.{ExcludesNumber}
+use Rattle.object_periods.specs.Loops.{HasNoPeriodLoop}
+use Rattle.object_periods.specs.claims.Periods.{AreDatedOf, ArePeriodsOf, dated_by, dated_in, excluded_at, line_ranges, ranges_at}
 use Rattle.object_periods.proofs.DayLemmas.{line-fits}
 use Rattle.object_periods.proofs.ExcludeLemmas.{names-long, numbers-within}
 use Rattle.object_reader.specs.declared.block.Block.{Block}
 use Rattle.object_reader.specs.declared.block.BlockKind.TheVariants.{TimePeriod}
-use Rattle.object_values.specs.DayRules.{day_named}
+use Rattle.object_values.specs.claims.DayRules.{day_named}
 use Rattle.object_values.specs.declared.day_rules.DayName.{DayName}
 use Rattle.object_values.specs.declared.day_rules.DayName.TheVariants.{Day, NoDay, Other}
-use Rattle.object_values.specs.Ranges.{weekdays}
+use Rattle.object_values.specs.claims.Ranges.{weekdays}
 
 -- what holds of the image of each element
 unmapped : (n : ℕ) (ids : List PeriodId) → All (λ k. k < n) (map (λ id. id.0) ids) → All (λ id. id.0 < n) ids

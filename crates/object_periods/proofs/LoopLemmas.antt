@@ -5,13 +5,14 @@ use Rattle.std.specs.List.{range_with_len}
 use Rattle.std.proofs.lemmas.Bool.{cases_lt}
 use Rattle.std.proofs.lemmas.List.Kept.{AllPairs-filter}
 use Rattle.std.proofs.lemmas.Option.{get_or_from_slice_get, slice_get_within}
-use Rattle.graph.specs.Chains.{Chain, IsOnLoop}
+use Rattle.graph.specs.claims.Chains.{Chain, IsOnLoop}
 use Rattle.graph_rules.specs.declared.rules.Rules.{Rules}
 use Rattle.graph_rules.specs.Rules.{Depends, HasNoLoop, IsFirstLooped, IsLooped}
 use Rattle.lemmas.proofs.Lists.{range_increases}
 use Rattle.lemmas.proofs.Chains.{Chain-map}
-use Rattle.object_groups.specs.Objects.{is_object_at, objects_in}
-use Rattle.object_periods.specs.Loops.{AreExclusions, ExcludesNumber, HasNoPeriodLoop, IsFirstLooped as IsFirstLoopedBlock, IsNumbered}
+use Rattle.object_groups.specs.claims.Objects.{is_object_at, objects_in}
+use Rattle.object_periods.specs.claims.Loops.{ExcludesNumber, IsNumbered}
+use Rattle.object_periods.specs.Loops.{AreExclusions, HasNoPeriodLoop, IsFirstLooped as IsFirstLoopedBlock}
 use Rattle.object_reader.specs.declared.block.Block.{Block}
 use Rattle.object_reader.specs.declared.block.BlockKind.TheVariants.{TimePeriod}
 

@@ -4,10 +4,11 @@ use Rattle.std.specs.Prelude.{codes, slice_get, unwrap_or}
 use Rattle.std.proofs.lemmas.List.{get_or-map, length_push}
 use Rattle.std.proofs.lemmas.Option.{get_or_from_slice_get, slice_get_within}
 use Rattle.due_model.specs.declared.config.Period.{Period}
-use Rattle.object_groups.specs.Names.{numbers_of}
-use Rattle.object_groups.specs.Objects.{list_at, name_at, names_in, objects_in}
+use Rattle.object_groups.specs.claims.Names.{numbers_of}
+use Rattle.object_groups.specs.claims.Objects.{list_at, name_at, names_in, objects_in}
 use Rattle.object_inheritance.specs.Columns.{Column}
-use Rattle.object_periods.specs.Periods.{ArePeriodsOf, column_of, excluded_at, IsPeriodOf}
+use Rattle.object_periods.specs.claims.Periods.{ArePeriodsOf, excluded_at, IsPeriodOf}
+use Rattle.object_periods.specs.Periods.{column_of}
 use Rattle.object_reader.specs.declared.block.Block.{Block}
 use Rattle.object_reader.specs.declared.block.BlockKind.TheVariants.{TimePeriod}
 

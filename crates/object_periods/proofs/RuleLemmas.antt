@@ -6,7 +6,7 @@ use Rattle.std.proofs.lemmas.List.Elements.{All-contains, All-map, All-weaker}
 use Rattle.std.proofs.lemmas.List.FromFn.{get_or-range_with_len, length-range_with_len}
 use Rattle.std.proofs.lemmas.Option.{get_or_from_slice_get, slice_get-get_or, slice_get_within}
 use Rattle.graph.specs.declared.edges.Edge.{Edge}
-use Rattle.graph.specs.Chains.{Reaches}
+use Rattle.graph.specs.claims.Chains.{Reaches}
 use Rattle.graph_rules.specs.declared.rules.Rules.{Rules}
 use Rattle.graph_rules.specs.Rules.{AreWithin, DependsBy, edge, HasDependent, HasMaster, IsOfRule}
 use Rattle.lemmas.proofs.Elements.{Contains-from_map, Contains-from_range, Contains-map, Contains-range}
@@ -15,11 +15,13 @@ use Rattle.object_groups.specs.declared.lists.Direction.TheVariants.{ToNames}
 use Rattle.object_groups.specs.declared.lists.ListNodes.{ListNodes}
 use Rattle.object_groups.specs.ListEdges.{edges_at, IsEdge, LeadOver, nodes_at}
 use Rattle.object_groups.specs.NodeLaws.{edge-from, edge-to}
-use Rattle.object_groups.specs.Objects.{names_in, objects_in}
+use Rattle.object_groups.specs.claims.Objects.{names_in, objects_in}
 use Rattle.object_groups.specs.ReachLaws.{list-edge, of-list}
-use Rattle.object_periods.specs.Loops.{AreExclusions, ExcludesNumber, rule_edge}
+use Rattle.object_periods.specs.claims.Loops.{ExcludesNumber}
+use Rattle.object_periods.specs.Loops.{AreExclusions, rule_edge}
 use Rattle.object_inheritance.specs.Columns.{Column}
-use Rattle.object_periods.specs.Periods.{column_of, excluded_at}
+use Rattle.object_periods.specs.claims.Periods.{excluded_at}
+use Rattle.object_periods.specs.Periods.{column_of}
 use Rattle.object_periods.proofs.ExcludeLemmas.{excluded-within}
 use Rattle.object_reader.specs.declared.block.Block.{Block}
 use Rattle.object_reader.specs.declared.block.BlockKind.TheVariants.{TimePeriod}

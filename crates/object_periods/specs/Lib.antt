@@ -1,3 +1,4 @@
+pub mod claims
 pub mod Periods
 pub mod Loops
 pub mod Laws

@@ -4,7 +4,7 @@ ghost use Rattle.std.specs.Prelude.{◌≡◌, ◌++◌, filter_map, IfOk, OnOk}
 ghost use Rattle.std.specs.Option.{option_to_list};
 ghost use Rattle.object_inheritance.specs.DatedLines.{named};
 ghost use Rattle.object_inheritance.specs.LineSearch.{AreMarks};
-ghost use Rattle.object_periods.specs.Periods.{AreDatedOf, dated_in};
+ghost use Rattle.object_periods.specs.claims.Periods.{AreDatedOf, dated_in};
 
 use crate::days::line_ranges;
 use due_model::config::Dated;

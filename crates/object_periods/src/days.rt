@@ -3,8 +3,9 @@
 ghost use Rattle.std.specs.Prelude.{◌≡◌, ◌<◌, ◌++◌, ◌∷◌, [], map, slice_index_or, IfOk};
 ghost use Rattle.std.specs.Prelude.{OnOk};
 ghost use Rattle.std.specs.Option.{option_copied};
-ghost use Rattle.object_periods.specs.Periods.{column_of, line_ranges, ranges_at};
-ghost use Rattle.object_values.specs.Ranges.{weekdays};
+ghost use Rattle.object_periods.specs.claims.Periods.{line_ranges, ranges_at};
+ghost use Rattle.object_periods.specs.Periods.{column_of};
+ghost use Rattle.object_values.specs.claims.Ranges.{weekdays};
 
 use due_model::config::Range;
 use due_model::sequence::Sequence;

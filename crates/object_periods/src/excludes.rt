@@ -1,8 +1,8 @@
 //! The periods that periods exclude (chapter "Time Periods").
 
 ghost use Rattle.std.specs.Prelude.{◌≡◌, IfOk};
-ghost use Rattle.object_groups.specs.Names.{numbers_of};
-ghost use Rattle.object_groups.specs.Objects.{list_at};
+ghost use Rattle.object_groups.specs.claims.Names.{numbers_of};
+ghost use Rattle.object_groups.specs.claims.Objects.{list_at};
 
 use object_groups::names::{Names, numbers_of};
 use object_groups::objects::list_at;

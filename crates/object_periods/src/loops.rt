@@ -3,7 +3,7 @@
 ghost use Rattle.std.specs.Prelude.{◌≡◌, ◌+◌, ◌<◌, ◌^◌, codes, length, map, All};
 ghost use Rattle.std.specs.Prelude.{IfNone, IfOk, IfSome};
 ghost use Rattle.std.specs.List.{range_with_len};
-ghost use Rattle.object_groups.specs.Objects.{objects_in};
+ghost use Rattle.object_groups.specs.claims.Objects.{objects_in};
 ghost use Rattle.object_periods.specs.Loops.{AreExclusions, HasNoPeriodLoop, IsFirstLooped};
 ghost use Rattle.object_periods.specs.Loops.{rule_edge};
 ghost use Rattle.object_periods.specs.Periods.{column_of};

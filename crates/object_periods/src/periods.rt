@@ -2,9 +2,10 @@
 
 ghost use Rattle.std.specs.Prelude.{◌≡◌, ◌++◌, ◌∷◌, [], codes, map, slice_get, IfOk, OnOk};
 ghost use Rattle.std.specs.Prelude.{Some};
-ghost use Rattle.object_groups.specs.Objects.{names_in, objects_in};
+ghost use Rattle.object_groups.specs.claims.Objects.{names_in, objects_in};
 ghost use Rattle.object_inheritance.specs.LineSearch.{AreMarks};
-ghost use Rattle.object_periods.specs.Periods.{ArePeriodsOf, column_of, IsPeriodOf};
+ghost use Rattle.object_periods.specs.claims.Periods.{ArePeriodsOf, IsPeriodOf};
+ghost use Rattle.object_periods.specs.Periods.{column_of};
 ghost use Rattle.object_reader.specs.declared.block.BlockKind.TheVariants.{TimePeriod};
 
 use crate::dated::dated_at;

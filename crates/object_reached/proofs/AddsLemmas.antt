@@ -7,11 +7,12 @@ use Rattle.std.proofs.lemmas.List.{append_assoc, append-nil, get_or-map, length-
 use Rattle.std.proofs.lemmas.List.Elements.{All-contains, Contains-append_left, Contains-append_right, Contains-append_cases, filter-append}
 use Rattle.std.proofs.lemmas.Option.{get_or_from_slice_get, slice_get_past, slice_get-get_or}
 use Rattle.lemmas.proofs.Elements.{at-Contains, Contains-cases, Contains-filter, Contains-from_filter, Contains-here, Contains-none, Contains-range}
-use Rattle.object_reached.specs.Listed.{is_named, is_named_at, IsNthOn, IsOn, OfSome}
+use Rattle.object_reached.specs.claims.Listed.{is_named}
+use Rattle.object_reached.specs.Listed.{is_named_at, IsNthOn, IsOn, OfSome}
 use Rattle.object_reached.specs.Services.{hosts_in, services_on}
 use Rattle.object_reached.proofs.ServiceLemmas.{on-exactly}
 use Rattle.object_listing.specs.Listing.{Adds}
-use Rattle.object_services.specs.Numbers.{Pair}
+use Rattle.object_services.specs.claims.Numbers.{Pair}
 
 -- ---- of one thing more
 

@@ -5,12 +5,14 @@ use Rattle.std.specs.Map.{lookup}
 use Rattle.std.proofs.lemmas.Bool.{false≢true}
 use Rattle.std.proofs.lemmas.Slice.Eq.{bytes_eq-Decides}
 use Rattle.object_groups.specs.Names.{name_eq}
-use Rattle.object_groups.specs.Objects.{list_at}
-use Rattle.object_inheritance.specs.Inherited.{beside, given, is_additive, joined_entries, list_given, own_entries, value}
+use Rattle.object_groups.specs.claims.Objects.{list_at}
+use Rattle.object_inheritance.specs.claims.Inherited.{given, is_additive, joined_entries, list_given, own_entries, value}
+use Rattle.object_inheritance.specs.Inherited.{beside}
 use Rattle.object_inheritance.specs.Columns.{Column, given_from}
 use Rattle.object_listing.specs.Listing.{ListingOf}
 use Rattle.object_reached.specs.Alike.{AreAlike, HaveLists}
-use Rattle.object_reached.specs.Listed.{of_hosts, ServiceListingOf}
+use Rattle.object_reached.specs.claims.Listed.{of_hosts}
+use Rattle.object_reached.specs.Listed.{ServiceListingOf}
 use Rattle.object_reader.specs.declared.block.Block.{Block}
 
 -- ---- one list

@@ -3,15 +3,17 @@ use Rattle.std.proofs.Common.{◌≡◌, ℕ, List, [], sym, subst, ◌⊎◌, i
 use Rattle.std.specs.Prelude.{Contains, true, ◌↔◌}
 use Rattle.std.specs.List.Sorted.{IsStrictlyIncreasing}
 use Rattle.lemmas.proofs.Elements.{Contains-none}
-use Rattle.object_reached.specs.Listed.{AddsMembers, AreServicesListed, IsDescribed, is_named, IsOn, IsServiceListed, of_hosts, OfSome, ServiceDirectives}
-use Rattle.object_groups.specs.Names.{numbers_of}
-use Rattle.object_groups.specs.Objects.{list_at, names_in}
-use Rattle.object_listing.specs.Listing.{Adds, AreThose, IsListed}
+use Rattle.object_reached.specs.claims.Listed.{IsDescribed, is_named, IsServiceListed, of_hosts, ServiceDirectives}
+use Rattle.object_reached.specs.Listed.{AddsMembers, AreServicesListed, IsOn, OfSome}
+use Rattle.object_groups.specs.claims.Names.{numbers_of}
+use Rattle.object_groups.specs.claims.Objects.{list_at, names_in}
+use Rattle.object_listing.specs.claims.Listing.{AreThose, IsListed}
+use Rattle.object_listing.specs.Listing.{Adds}
 use Rattle.object_reader.specs.declared.block.Block.{Block}
 use Rattle.object_reader.specs.declared.block.BlockKind.TheVariants.{ServiceGroup}
-use Rattle.object_service_groups.specs.Groups.{grouping}
-use Rattle.object_service_groups.specs.Members.{IsMember}
-use Rattle.object_services.specs.Numbers.{Pair}
+use Rattle.object_service_groups.specs.claims.Groups.{grouping}
+use Rattle.object_service_groups.specs.claims.Members.{IsMember}
+use Rattle.object_services.specs.claims.Numbers.{Pair}
 
 -- what is on the hosts that a block lists, of descriptions that it lists
 pub described-are : (blocks : List Block) (services : List Pair) (directives : ServiceDirectives) (place : ℕ) (listed : List ℕ) (entries : List (List ℕ)) (none found : List ℕ)

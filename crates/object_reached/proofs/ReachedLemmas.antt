@@ -10,20 +10,22 @@ use Rattle.lemmas.proofs.Elements.{Contains-from_map, Contains-map, Contains-non
 use Rattle.object_reached.specs.declared.roles.Role.{Role}
 use Rattle.object_reached.specs.declared.roles.Role.TheVariants.{Dependent, Escalated, Master}
 use Rattle.object_reached.specs.Laws.{SpokenAreObjects}
-use Rattle.object_reached.specs.Reached.{AreAfter, AreServicesOf, AreSpokenOf, SpeaksOf}
-use Rattle.object_reached.specs.Roles.{directives_of, host_kind, service_kind}
-use Rattle.object_reached.specs.Listed.{AreServicesListed, IsServiceListed, of_hosts, ServiceDirectives}
-use Rattle.object_groups.specs.Objects.{is_object, is_object_at, names_in}
+use Rattle.object_reached.specs.claims.Reached.{SpeaksOf}
+use Rattle.object_reached.specs.Reached.{AreAfter, AreServicesOf, AreSpokenOf}
+use Rattle.object_reached.specs.claims.Roles.{directives_of, host_kind, service_kind}
+use Rattle.object_reached.specs.claims.Listed.{IsServiceListed, of_hosts, ServiceDirectives}
+use Rattle.object_reached.specs.Listed.{AreServicesListed}
+use Rattle.object_groups.specs.claims.Objects.{is_object, is_object_at, names_in}
 use Rattle.object_groups.specs.ObjectLaws.{object-at}
-use Rattle.object_inheritance.specs.Templates.{kind_number}
+use Rattle.object_inheritance.specs.claims.Templates.{kind_number}
 use Rattle.object_listing.specs.Laws.{ListedAreObjects}
-use Rattle.object_listing.specs.Listing.{AreThose, host_directives, IsListed}
+use Rattle.object_listing.specs.claims.Listing.{AreThose, host_directives, IsListed}
 use Rattle.object_reader.specs.declared.block.Block.{Block}
 use Rattle.object_reader.specs.declared.block.BlockKind.{BlockKind}
 use Rattle.object_reader.specs.declared.block.BlockKind.TheVariants.{Host, Service}
 use Rattle.object_service_groups.specs.Laws.{MembersAreServices}
-use Rattle.object_services.specs.Hosts.{AreHosts}
-use Rattle.object_services.specs.Numbers.{Pair, pairs_of}
+use Rattle.object_services.specs.claims.Hosts.{AreHosts}
+use Rattle.object_services.specs.claims.Numbers.{Pair, pairs_of}
 use Rattle.object_reached.proofs.AddsLemmas.{place-there}
 
 -- ---- services after the hosts

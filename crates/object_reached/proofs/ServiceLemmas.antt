@@ -9,7 +9,8 @@ use Rattle.graph.specs.declared.edges.Edge.{Edge}
 use Rattle.graph.specs.Edges.{HasEdges, IsWithin, ends_of}
 use Rattle.lemmas.proofs.Elements.{Contains-filter, Contains-from_filter, Contains-from_map, Contains-from_range, Contains-here, Contains-later, Contains-none, Contains-range}
 use Rattle.lemmas.proofs.Numbers.{below_more}
-use Rattle.object_services.specs.Numbers.{Key, Pair, pairs_in, pairs_of}
+use Rattle.object_services.specs.claims.Numbers.{Pair, pairs_of}
+use Rattle.object_services.specs.Numbers.{Key, pairs_in}
 use Rattle.object_reached.specs.Services.{edge, host_edges, hosts_in, IsByHost, services_on}
 
 -- ---- the host and the description at a place

@@ -3,11 +3,12 @@ use Rattle.std.specs.Prelude.{◌≡◌, ℕ, ◌==◌, ◌&&◌, Bool, List, If
 use Rattle.std.proofs.Common.{Bor, eqb}
 use Rattle.std.specs.Map.{lookup}
 use Rattle.object_groups.specs.Names.{name_eq}
-use Rattle.object_groups.specs.Objects.{list_at}
-use Rattle.object_inheritance.specs.Inherited.{own_entries}
+use Rattle.object_groups.specs.claims.Objects.{list_at}
+use Rattle.object_inheritance.specs.claims.Inherited.{own_entries}
 use Rattle.object_reached.specs.declared.alike.Alike.{Alike}
 use Rattle.object_reached.specs.declared.alike.Alikes.{Alikes}
-use Rattle.object_reached.specs.Listed.{ServiceDirectives, ServiceListingOf}
+use Rattle.object_reached.specs.claims.Listed.{ServiceDirectives}
+use Rattle.object_reached.specs.Listed.{ServiceListingOf}
 use Rattle.object_reader.specs.declared.block.Block.{Block}
 
 -- The blocks at these places have the same lists of hosts, of host groups and of descriptions as the one at the place.

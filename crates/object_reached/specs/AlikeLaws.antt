@@ -1,12 +1,12 @@
 -- Blocks that have the same lists list the same hosts.
 use Rattle.std.proofs.Common.{ℕ, List, sym, subst, ◌∙◌, inl, inr}
 use Rattle.object_groups.specs.declared.groups.GroupKind.TheVariants.{HostGroups}
-use Rattle.object_groups.specs.Groups.{group_kind, object_kind}
-use Rattle.object_groups.specs.Names.{Lists}
-use Rattle.object_groups.specs.Objects.{names_in}
-use Rattle.object_listing.specs.Listing.{IsListed}
+use Rattle.object_groups.specs.claims.Groups.{group_kind, object_kind}
+use Rattle.object_groups.specs.claims.Names.{Lists}
+use Rattle.object_groups.specs.claims.Objects.{names_in}
+use Rattle.object_listing.specs.claims.Listing.{IsListed}
 use Rattle.object_reached.specs.Alike.{HaveLists, ListPlaces}
-use Rattle.object_reached.specs.Listed.{of_hosts, ServiceDirectives}
+use Rattle.object_reached.specs.claims.Listed.{of_hosts, ServiceDirectives}
 use Rattle.object_reader.specs.declared.block.Block.{Block}
 
 pub listed-alike : (blocks : List Block) (directives : ServiceDirectives) (one other : ℕ) (others : ListPlaces) → HaveLists blocks directives one others → HaveLists blocks directives other others

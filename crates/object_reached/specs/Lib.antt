@@ -1,6 +1,6 @@
+pub mod claims
 pub mod Services
 pub mod Listed
-pub mod Roles
 pub mod Reached
 pub mod Laws
 pub mod Alike

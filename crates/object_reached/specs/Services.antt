@@ -1,13 +1,8 @@
 -- The services of each host, and how they are kept (chapter "Object Definitions").
-use Rattle.std.specs.Prelude.{◌≡◌, ℕ, ◌<◌, ◌==◌, List, [], length, map, filter, All, Some, slice_get, slice_index_or}
+use Rattle.std.specs.Prelude.{◌≡◌, ℕ, ◌<◌, ◌==◌, List, [], length, map, filter, All, slice_index_or}
 use Rattle.std.specs.List.{range_with_len}
 use Rattle.graph.specs.declared.edges.Edge.{Edge}
-use Rattle.object_services.specs.Numbers.{Pair}
-
--- the service at that place is on the host, and has that description
-abbrev pub IsServiceOf : List Pair → (service host : ℕ) → (description : List ℕ) → Type 0
-IsServiceOf services service host description =
-    slice_get services service ≡ Some (host, description)
+use Rattle.object_services.specs.claims.Numbers.{Pair}
 
 -- ---- how they are kept
 

@@ -1,7 +1,7 @@
 //! Blocks that have the same lists.
 
 ghost use Rattle.std.specs.Prelude.{◌≡◌, [], IfOk, OnOk};
-ghost use Rattle.object_groups.specs.Objects.{list_at};
+ghost use Rattle.object_groups.specs.claims.Objects.{list_at};
 ghost use Rattle.object_reached.specs.Alike.{AreListsAlike, HaveLists, IsAlike};
 ghost use Rattle.object_reached.specs.Listed.{ServiceListingOf};
 

@@ -1,9 +1,11 @@
 //! The services that blocks list by four directives.
 
 ghost use Rattle.std.specs.Prelude.{◌≡◌, [], IfOk};
-ghost use Rattle.object_reached.specs.Listed.{AreServicesListed, IsDescribed, of_hosts};
+ghost use Rattle.object_reached.specs.claims.Listed.{IsDescribed, of_hosts};
+ghost use Rattle.object_reached.specs.Listed.{AreServicesListed};
 ghost use Rattle.object_groups.specs.declared.groups.GroupKind.TheVariants.{HostGroups};
-ghost use Rattle.object_listing.specs.Listing.{Adds, AreThose, IsListed};
+ghost use Rattle.object_listing.specs.claims.Listing.{AreThose, IsListed};
+ghost use Rattle.object_listing.specs.Listing.{Adds};
 
 use crate::numbers::{Descriptions, push_groups, push_hosts};
 use crate::services::HostServices;

@@ -25,7 +25,7 @@ pub(crate) struct Descriptions<'a> {
 
 impl<'a> Model for Descriptions<'a> {
     ghost use Rattle.std.specs.Prelude.{◌≡◌, ℕ, List};
-    ghost use Rattle.object_groups.specs.Names.{is_all};
+    ghost use Rattle.object_groups.specs.claims.Names.{is_all};
 
     ghost Value = { List (List ℕ) };
 

@@ -2,12 +2,12 @@
 
 ghost use Rattle.std.specs.Prelude.{◌≡◌, ◌+◌, ◌<◌, ◌^◌, length, slice_get, IfOk, Some};
 ghost use Rattle.object_groups.specs.declared.groups.GroupKind.TheVariants.{HostGroups};
-ghost use Rattle.object_groups.specs.Objects.{names_in, objects_in};
+ghost use Rattle.object_groups.specs.claims.Objects.{names_in, objects_in};
 ghost use Rattle.object_reached.specs.Reached.{AreAfter, AreServicesOf, AreSpokenOf};
-ghost use Rattle.object_reached.specs.Roles.{dependent_directives, directives_of, plain_directives};
+ghost use Rattle.object_reached.specs.claims.Roles.{dependent_directives, directives_of, plain_directives};
 ghost use Rattle.object_reader.specs.declared.block.BlockKind.TheVariants.{Host, Service};
-ghost use Rattle.object_services.specs.Limits.{AreHostLists};
-ghost use Rattle.object_services.specs.Numbers.{pairs_of};
+ghost use Rattle.object_services.specs.claims.Limits.{AreHostLists};
+ghost use Rattle.object_services.specs.claims.Numbers.{pairs_of};
 
 use crate::listing::ServiceListing;
 use crate::roles::Role;

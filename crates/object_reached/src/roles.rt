@@ -1,7 +1,7 @@
 //! The roles that objects have in blocks.
 
 ghost use Rattle.std.specs.Prelude.{◌≡◌};
-ghost use Rattle.object_reached.specs.Roles.{host_kind, service_kind};
+ghost use Rattle.object_reached.specs.claims.Roles.{host_kind, service_kind};
 
 use object_reader::block::BlockKind;
 

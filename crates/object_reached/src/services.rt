@@ -4,7 +4,8 @@ ghost use Rattle.std.specs.Prelude.{◌≡◌, ◌+◌, ◌<◌, ◌^◌, ◌↔
 ghost use Rattle.std.specs.Prelude.{Contains};
 ghost use Rattle.std.specs.Prelude.{IfOk, OnOk, slice_index_or};
 ghost use Rattle.object_reached.specs.Services.{host_edges, hosts_in, IsByHost, services_on};
-ghost use Rattle.object_services.specs.Numbers.{pairs_in, pairs_of};
+ghost use Rattle.object_services.specs.claims.Numbers.{pairs_of};
+ghost use Rattle.object_services.specs.Numbers.{pairs_in};
 
 use graph::edges::{Edge, Graph};
 use object_groups::names::Names;
@@ -56,7 +57,8 @@ pub struct HostServices<'a> {
 impl<'a> Model for HostServices<'a> {
     ghost use Rattle.std.specs.Prelude.{List};
     ghost use Rattle.object_reached.specs.Services.{IsByHost};
-    ghost use Rattle.object_services.specs.Numbers.{Pair, pairs_in};
+    ghost use Rattle.object_services.specs.claims.Numbers.{Pair};
+    ghost use Rattle.object_services.specs.Numbers.{pairs_in};
 
     ghost Value = { List Pair };
 

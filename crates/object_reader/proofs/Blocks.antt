@@ -1,7 +1,7 @@
 -- Blocks and their directives, one statement at a time.
 use Rattle.std.proofs.Common.{◌≡◌, ℕ, ◌<◌, ◌≤◌, true, false, List, [], ◌∷◌, ◌++◌, Result, Ok, Err, length, nat_lt, refl, sym, ap, subst, ◌∙◌, append_assoc, arith, tests}
 use Rattle.std.proofs.lemmas.List.{append-nil}
-use Rattle.due_model.specs.Limits.{text_limit}
+use Rattle.due_model.specs.claims.Limits.{text_limit}
 use Rattle.object_reader.specs.declared.block.BlockKind.{BlockKind}
 use Rattle.object_reader.specs.declared.block.Directive.{Directive}
 use Rattle.object_reader.specs.declared.block.Block.{Block}
@@ -9,7 +9,8 @@ use Rattle.object_reader.specs.declared.fault.LineFault.{LineFault}
 use Rattle.object_reader.specs.declared.fault.LineFault.TheVariants.{Unclosed}
 use Rattle.object_reader.specs.declared.fault.ReadFault.{ReadFault}
 use Rattle.object_reader.specs.declared.fault.ReadFault.TheVariants.{AtLine, NoMemory, TooLarge}
-use Rattle.object_reader.specs.Statements.{Statement, statements_of, opened, is_close, is_define}
+use Rattle.object_reader.specs.claims.Statements.{Statement, is_close, is_define}
+use Rattle.object_reader.specs.Statements.{statements_of, opened}
 use Rattle.object_reader.specs.Blocks.{◌>>=◌, at_line, directive_of, with_blocks, with_directives, before_blocks, blocks_of, block_of, read_text, Gives, FailsFirst}
 
 -- the fault of a first part is that of the whole

@@ -2,10 +2,10 @@
 use Rattle.std.proofs.Common.{◌≡◌, ℕ, ◌+◌, ◌<◌, ◌⊎◌, inl, inr, Bool, true, false, not, ◌||◌, ◌==◌, List, [], ◌∷◌, ◌++◌, length, drop, refl, sym, ap, subst, ◌∙◌, arith, tests, append_assoc, length-append}
 use Rattle.std.proofs.lemmas.Bool.{false_from_ne_true}
 use Rattle.std.specs.List.{before_first}
-use Rattle.object_reader.specs.Blanks.{is_blank, trim_start, trim_end, AreBlanks, IsTight}
-use Rattle.object_reader.specs.Joined.{EndsInBackslash}
+use Rattle.object_reader.specs.claims.Blanks.{is_blank, trim_start, trim_end, AreBlanks, IsTight}
+use Rattle.object_reader.specs.claims.Joined.{EndsInBackslash}
 use Rattle.object_reader.specs.Statements.{starts_comment, bare_from, unescaped, statement}
-use Rattle.object_reader.specs.Spelling.{IsComment, IsKept, Says}
+use Rattle.object_reader.specs.claims.Spelling.{IsComment, IsKept, Says}
 use Rattle.object_reader.proofs.Trimming.{before_fails, rest_begins, blanks_from, blanks_dropped, all_append, all_trimmed, trimmed_parts, not_mark, EndsTight, end_dropped, split_end}
 use Rattle.object_reader.proofs.Escapes.{bare_found, cut, meant_found, covered, covered_core, kept_unescaped}
 

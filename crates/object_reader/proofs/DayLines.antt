@@ -5,9 +5,11 @@ use Rattle.std.proofs.lemmas.List.{append-nil, drop-append-le, take-append-drop,
 use Rattle.std.proofs.Math.Seq.{take-append_seam, drop-append_seam, drop-length}
 use Rattle.std.specs.List.{list_all, list_any, position_or_len, before_first}
 use Rattle.object_reader.specs.declared.block.Directive.{Directive}
-use Rattle.object_reader.specs.Blanks.{is_blank, AreBlanks, HasNoBlank, BeginsTight, without_end}
-use Rattle.object_reader.specs.Statements.{first_word, after_word}
-use Rattle.object_reader.specs.DayLines.{separated, AreWords, without_blanks, HasTimes, HasNoTimes, IsDayLine, before_times, begins_day, day_front, starts_word, spaced, day_line}
+use Rattle.object_reader.specs.claims.Blanks.{is_blank, AreBlanks, HasNoBlank, BeginsTight, without_end}
+use Rattle.object_reader.specs.claims.Statements.{first_word}
+use Rattle.object_reader.specs.Statements.{after_word}
+use Rattle.object_reader.specs.claims.DayLines.{separated, AreWords, without_blanks, HasTimes, HasNoTimes, IsDayLine, begins_day}
+use Rattle.object_reader.specs.DayLines.{before_times, day_front, starts_word, spaced, day_line}
 use Rattle.object_reader.proofs.Trimming.{stops, all_append, all_parts, before_fails, blanks_from, none_or_some, rest_begins, not_mark, EndsTight, end_dropped, split_end, tail_is, trimmed_parts}
 use Rattle.object_reader.proofs.FirstWord.{apart, blanks_begin, word_first}
 

@@ -5,12 +5,12 @@ use Rattle.std.proofs.lemmas.List.{take_more, append-nil, nil_from_length}
 use Rattle.std.proofs.Math.Seq.{drop-cons, drop-length, take-length}
 use Rattle.std.specs.List.{list_all}
 use Rattle.memchr.specs.Find.{Passes, is_byte2}
-use Rattle.object_reader.specs.Blanks.{is_blank, AreBlanks, trim_start, trimmed}
+use Rattle.object_reader.specs.claims.Blanks.{is_blank, AreBlanks, trim_start, trimmed}
 use Rattle.object_reader.specs.Lines.{HasNoSemicolon}
-use Rattle.object_reader.specs.Joined.{EndsInBackslash}
+use Rattle.object_reader.specs.claims.Joined.{EndsInBackslash}
 use Rattle.object_reader.specs.Statements.{starts_semicolon, is_bare, bare_from, unescaped}
-use Rattle.object_reader.specs.DayLines.{separated}
-use Rattle.object_reader.specs.Spelling.{IsUnescaped}
+use Rattle.object_reader.specs.claims.DayLines.{separated}
+use Rattle.object_reader.specs.claims.Spelling.{IsUnescaped}
 use Rattle.object_reader.proofs.Trimming.{tail_is, not_mark}
 
 -- the loops, one byte at a time

@@ -5,8 +5,9 @@ use Rattle.std.proofs.lemmas.List.{take-append-drop}
 use Rattle.std.proofs.lemmas.List.Folds.{length-prefix_len}
 use Rattle.std.proofs.Math.Seq.{drop-append_seam, take-append_seam}
 use Rattle.std.specs.List.{position_or_len, before_first, list_all}
-use Rattle.object_reader.specs.Blanks.{is_blank, trim_start, AreBlanks}
-use Rattle.object_reader.specs.Statements.{first_word, after_word}
+use Rattle.object_reader.specs.claims.Blanks.{is_blank, trim_start, AreBlanks}
+use Rattle.object_reader.specs.claims.Statements.{first_word}
+use Rattle.object_reader.specs.Statements.{after_word}
 use Rattle.object_reader.proofs.Trimming.{stops, before_fails, BeginsWith, rest_begins, blanks_from, blanks_dropped, not_mark}
 
 -- the part before the first element that passes, and the rest

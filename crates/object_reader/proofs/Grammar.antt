@@ -2,7 +2,7 @@
 use Rattle.std.proofs.Common.{◌≡◌, ℕ, ◌<◌, ◌≤◌, ◌⊎◌, inl, inr, Bool, true, false, List, [], ◌∷◌, ◌++◌, Option, None, Some, Result, Ok, Err, length, refl, sym, ap, subst, ◌∙◌, MatchResult, IfOk, IfErr, append_assoc}
 use Rattle.std.proofs.lemmas.Bool.{cases_lt}
 use Rattle.std.proofs.lemmas.List.{append-nil}
-use Rattle.due_model.specs.Limits.{text_limit}
+use Rattle.due_model.specs.claims.Limits.{text_limit}
 use Rattle.object_reader.specs.declared.block.BlockKind.{BlockKind}
 use Rattle.object_reader.specs.declared.block.Directive.{Directive}
 use Rattle.object_reader.specs.declared.block.Block.{Block}
@@ -10,9 +10,10 @@ use Rattle.object_reader.specs.declared.fault.LineFault.{LineFault}
 use Rattle.object_reader.specs.declared.fault.LineFault.TheVariants.{NoValue, Unclosed}
 use Rattle.object_reader.specs.declared.fault.ReadFault.{ReadFault}
 use Rattle.object_reader.specs.declared.fault.ReadFault.TheVariants.{AtLine, NoMemory, TooLarge}
-use Rattle.object_reader.specs.Statements.{Statement, statements_of, opened, is_close, is_define}
+use Rattle.object_reader.specs.claims.Statements.{Statement, is_close, is_define}
+use Rattle.object_reader.specs.Statements.{statements_of, opened}
 use Rattle.object_reader.specs.Blocks.{◌>>=◌, at_line, directive_of, with_blocks, with_directives, before_blocks, blocks_of, block_of, read_text, Gives}
-use Rattle.object_reader.specs.Grammar.{Opens, IsDirective, Closes, AreDirectives, IsBlock, AreBlocks, IsObjectText, IsBeginning, IsFaulty, OpensNone, IsFirstFault, IsRefused}
+use Rattle.object_reader.specs.claims.Grammar.{Opens, IsDirective, Closes, AreDirectives, IsBlock, AreBlocks, IsObjectText, IsBeginning, IsFaulty, OpensNone, IsFirstFault, IsRefused}
 use Rattle.object_reader.proofs.Statements.{text_statements, has_statements}
 use Rattle.object_reader.proofs.Spelling.{opened_spelled, opened_taken, opened_refused, no_define, directive_spelled, directive_taken, directive_refused, no_directive}
 use Rattle.object_reader.proofs.Blocks.{block_of-close, block_of-directive, block_of-define, with_directives-close, with_directives-push, blocks_of-block, blocks_of-not_opened, blocks_of-opened, block_and, with_blocks-push, read_text-blocks, read_text-large}

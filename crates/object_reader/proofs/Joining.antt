@@ -6,14 +6,16 @@ use Rattle.std.proofs.lemmas.Str.{IsUtf8-from_is_utf8, is_utf8-from_IsUtf8}
 use Rattle.std.proofs.Math.Seq.{take-append_seam, get_or-append_seam}
 use Rattle.std.specs.List.{before_first}
 use Rattle.std.specs.Str.{is_utf8}
-use Rattle.due_model.specs.Limits.{line_limit}
+use Rattle.due_model.specs.claims.Limits.{line_limit}
 use Rattle.object_reader.specs.declared.fault.LineFault.{LineFault}
 use Rattle.object_reader.specs.declared.fault.LineFault.TheVariants.{NotUtf8, LineTooLong}
-use Rattle.object_reader.specs.Blanks.{is_blank, trim_start}
+use Rattle.object_reader.specs.claims.Blanks.{is_blank, trim_start}
 use Rattle.object_reader.specs.declared.fault.ReadFault.TheVariants.{AtLine}
 use Rattle.object_reader.specs.Blocks.{BreaksFirst}
-use Rattle.object_reader.specs.Lines.{Line, lines_of, content, HasNoSemicolon}
-use Rattle.object_reader.specs.Joined.{JoinedLine, IsFaultOf, HasNoFault, EndsInBackslash, GoesOn, EndsHere, IsPutAfter, IsJoined, AreJoined, ends_in_backslash, without_last, Piece, piece_of, line_piece, put_after, onto_first, joined_with, joined_from}
+use Rattle.object_reader.specs.claims.Lines.{Line, content}
+use Rattle.object_reader.specs.Lines.{lines_of, HasNoSemicolon}
+use Rattle.object_reader.specs.claims.Joined.{JoinedLine, IsFaultOf, HasNoFault, EndsInBackslash, GoesOn, EndsHere, IsPutAfter, IsJoined, AreJoined, ends_in_backslash, without_last}
+use Rattle.object_reader.specs.Joined.{Piece, piece_of, line_piece, put_after, onto_first, joined_with, joined_from}
 use Rattle.object_reader.proofs.Escapes.{plain_taken}
 use Rattle.object_reader.proofs.Trimming.{before_fails, blanks_from, blanks_trimmed, left_tight, trimmed_parts, trim_across}
 

@@ -2,7 +2,8 @@
 use Rattle.std.proofs.Common.{◌≡◌, ℕ, zero, suc, ◌<◌, Bool, true, false, not, eqb, ◌==◌, inl, inr, List, [], ◌∷◌, ◌++◌, length, get_or, take, drop, refl, sym, ap, ◌∙◌, arith, tests}
 use Rattle.std.proofs.lemmas.Bool.{and_parts, and_from}
 use Rattle.std.specs.List.{list_all}
-use Rattle.object_reader.specs.Lines.{Line, onto_first_line, lines_of, AreLines}
+use Rattle.object_reader.specs.claims.Lines.{Line, AreLines}
+use Rattle.object_reader.specs.Lines.{onto_first_line, lines_of}
 
 -- a byte that is no newline
 lines_of-cons : (b : ℕ) (bs : List ℕ) → eqb b 10 ≡ false → lines_of (b ∷ bs) ≡ onto_first_line b (lines_of bs)

@@ -12,11 +12,12 @@ use Rattle.object_reader.specs.declared.block.BlockKind.TheVariants.{TimePeriod}
 use Rattle.object_reader.specs.declared.block.Directive.{Directive}
 use Rattle.object_reader.specs.declared.fault.LineFault.{LineFault}
 use Rattle.object_reader.specs.declared.fault.LineFault.TheVariants.{NotADefine, NoValue}
-use Rattle.object_reader.specs.Blanks.{is_blank, trim_start, AreBlanks}
-use Rattle.object_reader.specs.Statements.{first_word, after_word, ends_type, types, kind_among, kind_of, opened}
+use Rattle.object_reader.specs.claims.Blanks.{is_blank, trim_start, AreBlanks}
+use Rattle.object_reader.specs.claims.Statements.{first_word, ends_type, types, kind_among, kind_of}
+use Rattle.object_reader.specs.Statements.{after_word, opened}
 use Rattle.object_reader.specs.DayLines.{day_front, day_line}
 use Rattle.object_reader.specs.Blocks.{name_and_value, day_or_value, is_period, directive_of}
-use Rattle.object_reader.specs.Spelling.{IsDefine, IsNameAndValue, IsDay, IsSpelled}
+use Rattle.object_reader.specs.claims.Spelling.{IsDefine, IsNameAndValue, IsDay, IsSpelled}
 use Rattle.object_reader.proofs.Trimming.{stops, before_fails, BeginsWith, rest_begins, blanks_from, blanks_dropped, not_mark, none_or_some}
 use Rattle.object_reader.proofs.DayLines.{day_some, day_found, day_written}
 use Rattle.object_reader.proofs.FirstWord.{after_first_word, apart, blanks_begin, front_and_rest, IsApart, word_first}

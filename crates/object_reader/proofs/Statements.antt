@@ -4,11 +4,13 @@ use Rattle.object_reader.specs.declared.fault.LineFault.{LineFault}
 use Rattle.object_reader.specs.declared.fault.ReadFault.{ReadFault}
 use Rattle.object_reader.specs.declared.fault.ReadFault.TheVariants.{AtLine, NoMemory, TooLarge}
 use Rattle.object_reader.specs.Lines.{lines_of}
-use Rattle.object_reader.specs.Joined.{JoinedLine, joined_from}
-use Rattle.object_reader.specs.Statements.{Statement, statement, before_others, said_before, statements_in, statements_of}
-use Rattle.object_reader.specs.Spelling.{Says}
+use Rattle.object_reader.specs.claims.Joined.{JoinedLine}
+use Rattle.object_reader.specs.Joined.{joined_from}
+use Rattle.object_reader.specs.claims.Statements.{Statement}
+use Rattle.object_reader.specs.Statements.{statement, before_others, said_before, statements_in, statements_of}
+use Rattle.object_reader.specs.claims.Spelling.{Says}
 use Rattle.object_reader.specs.Blocks.{FailsFirst, BreaksFirst}
-use Rattle.object_reader.specs.Grammar.{AreStatements, HasStatements}
+use Rattle.object_reader.specs.claims.Grammar.{AreStatements, HasStatements}
 use Rattle.object_reader.proofs.Lines.{lines_read, lines_are}
 use Rattle.object_reader.proofs.Joining.{joined_read, joined_are}
 use Rattle.object_reader.proofs.Comments.{statement_found, statement_written}

@@ -13,13 +13,14 @@ use Rattle.object_reader.specs.declared.block.Block.{Block}
 use Rattle.object_reader.specs.declared.fault.LineFault.{LineFault}
 use Rattle.object_reader.specs.declared.fault.ReadFault.{ReadFault}
 use Rattle.object_reader.specs.Blocks.{Gives, read_text}
-use Rattle.object_reader.specs.Blanks.{is_blank, AreBlanks, BeginsTight, IsTight}
-use Rattle.object_reader.specs.Lines.{Line, content}
-use Rattle.object_reader.specs.Joined.{JoinedLine, EndsInBackslash, EndsHere, GoesOn, IsPutAfter, IsJoined, AreJoined}
-use Rattle.object_reader.specs.Statements.{Statement}
-use Rattle.object_reader.specs.DayLines.{separated, AreWords, without_blanks, HasTimes, HasNoTimes, IsDayLine}
-use Rattle.object_reader.specs.Spelling.{IsUnescaped, IsKept, Says, IsNameAndValue, IsSpelled}
-use Rattle.object_reader.specs.Grammar.{AreStatements, IsDirective, AreDirectives, AreBlocks, IsObjectText, IsPlain, ArePlain}
+use Rattle.object_reader.specs.claims.Blanks.{is_blank, AreBlanks, BeginsTight, IsTight}
+use Rattle.object_reader.specs.claims.Lines.{Line, content}
+use Rattle.object_reader.specs.claims.Joined.{JoinedLine, EndsInBackslash, EndsHere, GoesOn, IsPutAfter, IsJoined, AreJoined}
+use Rattle.object_reader.specs.claims.Statements.{Statement}
+use Rattle.object_reader.specs.claims.DayLines.{separated, AreWords, without_blanks, HasTimes, HasNoTimes, IsDayLine}
+use Rattle.object_reader.specs.claims.Spelling.{IsUnescaped, IsKept, Says, IsNameAndValue, IsSpelled}
+use Rattle.object_reader.specs.claims.Grammar.{AreStatements, IsDirective, AreDirectives, AreBlocks, IsObjectText}
+use Rattle.object_reader.specs.Grammar.{IsPlain, ArePlain}
 use Rattle.object_reader.proofs.FirstWord.{blanks_begin}
 use Rattle.object_reader.proofs.Grammar.{answered_blocks}
 

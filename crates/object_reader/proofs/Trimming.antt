@@ -6,7 +6,7 @@ use Rattle.std.proofs.Math.Seq.{drop-append_seam, take-append_seam, drop-length,
 use Rattle.std.proofs.lemmas.List.Sums.{prefix_len-le-length, position_or_len_is, fails_before_first}
 use Rattle.std.specs.Option.{unwrap_or}
 use Rattle.std.specs.List.{position, position_or_len, prefix_len, suffix_len, before_first, list_all}
-use Rattle.object_reader.specs.Blanks.{is_blank, trim_start, without_end, AreBlanks, BeginsTight}
+use Rattle.object_reader.specs.claims.Blanks.{is_blank, trim_start, without_end, AreBlanks, BeginsTight}
 
 pub stops : (p : ℕ → Bool) (xs : List ℕ) (y : ℕ) (ys : List ℕ) → list_all (λ b. not (p b)) xs ≡ true → p y ≡ true → position_or_len p (xs ++ y ∷ ys) ≡ length xs
 stops p [] y ys h e = rw e refl

@@ -1,6 +1,6 @@
 -- The blocks of object text (chapter "Object Configuration Overview").
 use Rattle.std.specs.Prelude.{◌≡◌, ℕ, Bool, true, false, nat_lt, ◌==◌, List, [], ◌∷◌, ◌++◌, length, Result, Ok, Err, if◌then◌else◌}
-use Rattle.due_model.specs.Limits.{text_limit}
+use Rattle.due_model.specs.claims.Limits.{text_limit}
 use Rattle.object_reader.specs.declared.block.Directive.{Directive}
 use Rattle.object_reader.specs.declared.block.Block.{Block}
 use Rattle.object_reader.specs.declared.fault.LineFault.{LineFault}
@@ -9,9 +9,10 @@ use Rattle.object_reader.specs.declared.fault.ReadFault.{ReadFault}
 use Rattle.object_reader.specs.declared.fault.ReadFault.TheVariants.{AtLine, NoMemory, TooLarge}
 use Rattle.object_reader.specs.declared.block.BlockKind.{BlockKind}
 use Rattle.object_reader.specs.declared.block.BlockKind.TheVariants.{TimePeriod}
-use Rattle.object_reader.specs.Statements.{Statement, statements_of, opened, is_close, is_define, first_word, after_word}
+use Rattle.object_reader.specs.claims.Statements.{Statement, is_close, is_define, first_word}
+use Rattle.object_reader.specs.Statements.{statements_of, opened, after_word}
 use Rattle.object_reader.specs.DayLines.{day_front, day_line}
-use Rattle.object_reader.specs.Joined.{JoinedLine}
+use Rattle.object_reader.specs.claims.Joined.{JoinedLine}
 
 -- the first fault, or what comes of what was read
 infixl 10 ◌>>=◌

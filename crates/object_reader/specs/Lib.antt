@@ -1,9 +1,8 @@
+pub mod claims
 pub mod Fault
 pub mod Lines
-pub mod Blanks
 pub mod Joined
 pub mod Statements
 pub mod DayLines
 pub mod Blocks
-pub mod Spelling
 pub mod Grammar

@@ -1,14 +1,15 @@
 -- What the joined lines of object text say, one by one (chapter "Object Configuration Overview").
-use Rattle.std.specs.Prelude.{ℕ, Bool, true, false, ◌&&◌, ◌||◌, not, ◌==◌, List, [], ◌∷◌, length, drop, codes, Result, Ok, Err, if◌then◌else◌}
+use Rattle.std.specs.Prelude.{ℕ, Bool, false, ◌&&◌, ◌||◌, not, ◌==◌, List, [], ◌∷◌, length, drop, codes, Result, Ok, Err, if◌then◌else◌}
 use Rattle.std.specs.List.{before_first}
 use Rattle.std.specs.Str.{bytes_eq}
 use Rattle.object_reader.specs.declared.block.BlockKind.{BlockKind}
-use Rattle.object_reader.specs.declared.block.BlockKind.TheVariants.{Host, HostGroup, Service, ServiceGroup, Contact, ContactGroup, TimePeriod, Command, HostEscalation, ServiceEscalation, HostDependency, ServiceDependency, HostExtInfo, ServiceExtInfo}
 use Rattle.object_reader.specs.declared.fault.LineFault.{LineFault}
-use Rattle.object_reader.specs.declared.fault.LineFault.TheVariants.{NotADefine, UnknownType}
-use Rattle.object_reader.specs.Blanks.{is_blank, trim_start, trimmed}
+use Rattle.object_reader.specs.declared.fault.LineFault.TheVariants.{NotADefine}
+use Rattle.object_reader.specs.claims.Blanks.{trim_start, trimmed}
 use Rattle.object_reader.specs.Lines.{lines_of}
-use Rattle.object_reader.specs.Joined.{JoinedLine, joined_from}
+use Rattle.object_reader.specs.claims.Joined.{JoinedLine}
+use Rattle.object_reader.specs.Joined.{joined_from}
+use Rattle.object_reader.specs.claims.Statements.{first_word, kind_of, ends_type, Statement}
 
 -- whether the first byte is # or ;
 abbrev pub starts_comment : List ℕ → Bool
@@ -39,36 +40,9 @@ unescaped (b ∷ bs) = if b == 92 && starts_semicolon bs then unescaped bs else 
 unfoldable pub statement : List ℕ → List ℕ
 statement bs = if starts_comment (trim_start bs) then [] else unescaped (trimmed (bare_from 0 bs))
 
--- the first word of a statement
-abbrev pub first_word : List ℕ → List ℕ
-first_word s = before_first is_blank s
-
 -- what stands after the first word
 abbrev pub after_word : List ℕ → List ℕ
 after_word s = trim_start (drop (length (first_word s)) s)
-
--- the types of object text, and the kinds that they mean (chapter "Object Definitions")
-abbrev pub types : List (List ℕ × BlockKind)
-types = (codes "host", Host) ∷ (codes "hostgroup", HostGroup) ∷ (codes "service", Service)
-    ∷ (codes "servicegroup", ServiceGroup)
-    ∷ (codes "contact", Contact) ∷ (codes "contactgroup", ContactGroup)
-    ∷ (codes "timeperiod", TimePeriod) ∷ (codes "command", Command)
-    ∷ (codes "hostescalation", HostEscalation) ∷ (codes "serviceescalation", ServiceEscalation)
-    ∷ (codes "hostdependency", HostDependency) ∷ (codes "servicedependency", ServiceDependency)
-    ∷ (codes "hostextinfo", HostExtInfo) ∷ (codes "serviceextinfo", ServiceExtInfo) ∷ []
-
--- the kind that a type means among these
-abbrev pub kind_among : List (List ℕ × BlockKind) → List ℕ → Result BlockKind LineFault
-kind_among [] name = Err UnknownType
-kind_among (t ∷ ts) name = if bytes_eq name t.0 then Ok t.1 else kind_among ts name
-
--- The kind of block that a type means.
-unfoldable pub kind_of : List ℕ → Result BlockKind LineFault
-kind_of name = kind_among types name
-
--- whether a byte ends a type: a blank or {
-abbrev pub ends_type : ℕ → Bool
-ends_type b = is_blank b || b == 123
 
 -- A block is opened by `define`, blanks, a type, blanks or none, and {.
 unfoldable pub opened : List ℕ → Result BlockKind LineFault
@@ -76,19 +50,6 @@ opened s = let rest = after_word s in let name = before_first ends_type rest in
     if bytes_eq (first_word s) (codes "define") && not (length name == 0)
     && bytes_eq (trim_start (drop (length name) rest)) (codes "{")
     then kind_of name else Err NotADefine
-
--- A block is closed by } alone.
-abbrev pub is_close : List ℕ → Bool
-is_close s = bytes_eq s (codes "}")
-
--- whether a statement begins as the next block does
-abbrev pub is_define : List ℕ → Bool
-is_define s = bytes_eq (first_word s) (codes "define")
-
--- A statement with the number of its line, or the fault of that line.
-pub record Statement : Type 0 where
-  pub line : ℕ
-  pub text : Result (List ℕ) LineFault
 
 -- the statement of a line before the others, where it isn't empty
 abbrev pub before_others : ℕ → List ℕ → List Statement → List Statement

@@ -3,7 +3,7 @@
 
 ghost use Rattle.std.specs.Prelude.{◌≡◌, not, ◌≤◌};
 ghost use Rattle.std.specs.List.{position};
-ghost use Rattle.object_reader.specs.Blanks.{is_blank, trim_start, trim_end, trimmed};
+ghost use Rattle.object_reader.specs.claims.Blanks.{is_blank, trim_start, trim_end, trimmed};
 
 /// Whether a byte is a space or a tab.
 pub(crate) fn is_blank(byte: u8) -> bool

@@ -4,9 +4,11 @@
 ghost use Rattle.std.specs.Prelude.{◌≡◌, not, ◌==◌, codes, IfOk};
 ghost use Rattle.std.specs.List.{position, list_any};
 ghost use Rattle.std.specs.Str.{bytes_eq};
-ghost use Rattle.object_reader.specs.Blanks.{is_blank, without_end};
-ghost use Rattle.object_reader.specs.DayLines.{before_times, begins_day, begins_with_digit, day_front};
-ghost use Rattle.object_reader.specs.DayLines.{months, spaced, starts_word, weekdays, without_blanks};
+ghost use Rattle.object_reader.specs.claims.Blanks.{is_blank, without_end};
+ghost use Rattle.object_reader.specs.claims.DayLines.{begins_day, begins_with_digit};
+ghost use Rattle.object_reader.specs.DayLines.{before_times, day_front};
+ghost use Rattle.object_reader.specs.claims.DayLines.{months, weekdays, without_blanks};
+ghost use Rattle.object_reader.specs.DayLines.{spaced, starts_word};
 
 use crate::blanks::is_blank;
 use crate::statement::is_word;
@@ -55,7 +57,7 @@ pub fn begins_with_digit(name: &[u8]) -> bool
 }
 
 /// Whether a day line begins with the word: a weekday, a month, `day`, or a word that begins with a digit.
-#[tactic(auto, unfolding(crate::specs::DayLines::begins_day))]
+#[tactic(auto, unfolding(crate::specs::claims::DayLines::begins_day))]
 pub fn begins_day(word: &[u8]) -> bool
     ensures { result ≡ begins_day word.now }
 {

@@ -5,11 +5,13 @@ ghost use Rattle.std.specs.Prelude.{◌≡◌, ◌∷◌, [], true, length, ◌�
 ghost use Rattle.std.specs.Prelude.{IfSome, MatchResult, MatchOption};
 ghost use Rattle.std.specs.Cow.{cow_slice_items};
 ghost use Rattle.std.specs.Str.{is_utf8};
-ghost use Rattle.due_model.specs.Limits.{text_limit};
+ghost use Rattle.due_model.specs.claims.Limits.{text_limit};
 ghost use Rattle.object_reader.specs.Blocks.{BreaksFirst};
-ghost use Rattle.object_reader.specs.Joined.{JoinedLine, Piece, ends_in_backslash, piece_of, line_piece};
+ghost use Rattle.object_reader.specs.claims.Joined.{JoinedLine, ends_in_backslash};
+ghost use Rattle.object_reader.specs.Joined.{Piece, piece_of, line_piece};
 ghost use Rattle.object_reader.specs.Joined.{onto_first, joined_from};
-ghost use Rattle.object_reader.specs.Lines.{Line, lines_of, HasNoSemicolon};
+ghost use Rattle.object_reader.specs.claims.Lines.{Line};
+ghost use Rattle.object_reader.specs.Lines.{lines_of, HasNoSemicolon};
 
 use crate::blanks::trim_start;
 use crate::fault::{LineFault, ReadFault};
@@ -107,7 +109,8 @@ impl<'a> Model for JoinedReader<'a> {
     ghost use Rattle.std.specs.Prelude.{◌≡◌, true, List, ◌+◌, ◌<◌, ◌^◌, length};
     ghost use Rattle.std.specs.Str.{is_utf8};
     ghost use Rattle.object_reader.specs.Lines.{lines_of};
-    ghost use Rattle.object_reader.specs.Joined.{JoinedLine, joined_from};
+    ghost use Rattle.object_reader.specs.claims.Joined.{JoinedLine};
+    ghost use Rattle.object_reader.specs.Joined.{joined_from};
 
     ghost Value = { List JoinedLine };
 

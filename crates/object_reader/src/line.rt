@@ -4,7 +4,8 @@ ghost use Rattle.std.specs.Prelude.{◌≡◌, ◌<◌, ◌∷◌, true, length,
 ghost use Rattle.std.specs.Option.{unwrap_or};
 ghost use Rattle.std.specs.Str.{is_utf8};
 ghost use Rattle.memchr.specs.Find.{IsFirstByte, is_byte};
-ghost use Rattle.object_reader.specs.Lines.{Line, lines_of, content, HasNoSemicolon};
+ghost use Rattle.object_reader.specs.claims.Lines.{Line, content};
+ghost use Rattle.object_reader.specs.Lines.{lines_of, HasNoSemicolon};
 
 use memchr::{memchr, memchr2};
 
@@ -65,7 +66,7 @@ pub(crate) fn split_line(text: &[u8]) -> (TextLine<'_>, &[u8])
 }
 
 /// What a line holds: its bytes, without a carriage return before the newline.
-#[tactic(auto, unfolding(crate::specs::Lines::content))]
+#[tactic(auto, unfolding(crate::specs::claims::Lines::content))]
 pub(crate) fn content(line: TextLine<'_>) -> &[u8]
     ensures { result.now
         ≡ content (record { bytes = line.entry.bytes.now; ended = line.entry.ended }) }

@@ -3,11 +3,13 @@
 ghost use Rattle.std.specs.Prelude.{◌≡◌, ◌⊎◌, List, ◌∷◌, [], Ok, Err, length, ◌≤◌};
 ghost use Rattle.std.specs.Prelude.{IfOk, IfErr, OnOk, MatchResult, MatchOption};
 ghost use Rattle.std.specs.Cow.{cow_slice_items};
-ghost use Rattle.object_reader.specs.Statements.{Statement, statements_in};
+ghost use Rattle.object_reader.specs.claims.Statements.{Statement};
+ghost use Rattle.object_reader.specs.Statements.{statements_in};
 ghost use Rattle.object_reader.specs.declared.block.Block.{Block};
 ghost use Rattle.object_reader.specs.declared.fault.ReadFault.{ReadFault};
 ghost use Rattle.object_reader.specs.declared.fault.ReadFault.TheVariants.{NoMemory};
-ghost use Rattle.object_reader.specs.Grammar.{ArePlain, IsObjectText, IsRefused};
+ghost use Rattle.object_reader.specs.claims.Grammar.{IsObjectText, IsRefused};
+ghost use Rattle.object_reader.specs.Grammar.{ArePlain};
 ghost use Rattle.object_reader.specs.Blocks.{Gives, FailsFirst, before_blocks, at_line, is_period};
 ghost use Rattle.object_reader.specs.Blocks.{name_and_value, directive_of, block_of, blocks_of, read_text};
 ghost use Rattle.object_reader.specs.DayLines.{day_line};

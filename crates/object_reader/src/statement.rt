@@ -4,10 +4,11 @@ ghost use Rattle.std.specs.Prelude.{◌≡◌, ◌&&◌, ◌==◌, true, IfOk};
 ghost use Rattle.std.specs.Cow.{cow_slice_items};
 ghost use Rattle.std.specs.List.{position};
 ghost use Rattle.std.specs.Str.{bytes_eq};
-ghost use Rattle.object_reader.specs.Blanks.{is_blank};
+ghost use Rattle.object_reader.specs.claims.Blanks.{is_blank};
 ghost use Rattle.object_reader.specs.Lines.{HasNoSemicolon};
 ghost use Rattle.object_reader.specs.Statements.{starts_comment, starts_semicolon, bare_from, unescaped};
-ghost use Rattle.object_reader.specs.Statements.{statement, is_define, is_close, kind_of, ends_type};
+ghost use Rattle.object_reader.specs.claims.Statements.{is_define, is_close, kind_of, ends_type};
+ghost use Rattle.object_reader.specs.Statements.{statement};
 ghost use Rattle.object_reader.specs.Statements.{opened};
 
 use crate::blanks::{is_blank, trim, trim_end, trim_start};
@@ -149,7 +150,7 @@ pub(crate) fn is_define(words: &Words<'_>) -> bool
 }
 
 /// The kind of block that a type means.
-#[tactic(auto, unfolding(crate::specs::Statements::kind_of))]
+#[tactic(auto, unfolding(crate::specs::claims::Statements::kind_of))]
 fn kind_of(name: &[u8]) -> Result<BlockKind, LineFault>
     ensures { result ≡ kind_of name.now }
 {

@@ -2,8 +2,9 @@
 
 ghost use Rattle.std.specs.Prelude.{◌≡◌, nat_le};
 ghost use Rattle.std.specs.List.{position};
-ghost use Rattle.object_reader.specs.Blanks.{is_blank};
-ghost use Rattle.object_reader.specs.Statements.{first_word, after_word};
+ghost use Rattle.object_reader.specs.claims.Blanks.{is_blank};
+ghost use Rattle.object_reader.specs.claims.Statements.{first_word};
+ghost use Rattle.object_reader.specs.Statements.{after_word};
 
 use crate::blanks::{is_blank, trim_start};
 use std::marker::Model;
@@ -37,7 +38,7 @@ pub(crate) struct Words<'a> {
 impl<'a> Model for Words<'a> {
     ghost use Rattle.std.specs.Prelude.{◌≡◌, ◌≤◌, ℕ, List, length};
     ghost use Rattle.std.specs.List.{position_or_len};
-    ghost use Rattle.object_reader.specs.Blanks.{is_blank};
+    ghost use Rattle.object_reader.specs.claims.Blanks.{is_blank};
 
     ghost Value = { List ℕ };
 

@@ -9,8 +9,8 @@ use Rattle.std.proofs.lemmas.List.{get_or-map, get_or_past, length-map}
 use Rattle.std.proofs.lemmas.List.Elements.{All-nil, All-cons, All-append, All-from_get_or, Contains-get_or}
 use Rattle.std.proofs.lemmas.Option.{none-some, slice_get_within}
 use Rattle.std.proofs.lemmas.Slice.Zip.{AllZip-long}
-use Rattle.due_model.specs.Accepted.{ContactFits, EscalationFits, HasContacts, IsAccepted, IsHost, ObjectFits, RightsFit}
-use Rattle.due_model.specs.Limits.{max_dependencies, max_escalations, max_number, max_objects}
+use Rattle.due_model.specs.claims.Accepted.{ContactFits, EscalationFits, HasContacts, IsAccepted, IsHost, ObjectFits, RightsFit}
+use Rattle.due_model.specs.claims.Limits.{max_dependencies, max_escalations, max_number, max_objects}
 use Rattle.due_model.specs.declared.config.Config.{Config}
 use Rattle.due_model.specs.declared.config.ContactId.{ContactId}
 use Rattle.due_model.specs.declared.config.Escalation.{Escalation}
@@ -21,40 +21,40 @@ use Rattle.due_model.specs.declared.config.PeriodId.{PeriodId}
 use Rattle.due_model.specs.declared.config.Rights.{Rights}
 use Rattle.lemmas.proofs.Lists.{All-flat_map, All-slice_get}
 use Rattle.lemmas.proofs.Searches.{position-within}
-use Rattle.object_contacts.specs.Contacts.{AreRightsOf, IsContactOf}
-use Rattle.object_contacts.specs.Lanes.{lane_of, NamesLane}
+use Rattle.object_contacts.specs.claims.Contacts.{AreRightsOf, IsContactOf}
+use Rattle.object_contacts.specs.claims.Lanes.{lane_of, NamesLane}
 use Rattle.object_contacts.specs.declared.rights.RightsKind.{RightsKind}
 use Rattle.object_contacts.specs.declared.rights.RightsKind.TheVariants.{OfHosts, OfServices}
 use Rattle.object_listing.specs.ReadingLaws.{period-few}
 use Rattle.object_dependencies.specs.Laws as dependencies
-use Rattle.object_dependencies.specs.Limits.{GiveDependencies}
-use Rattle.object_escalations.specs.Entries as entries
-use Rattle.object_escalations.specs.Entries.{AreTold, ComesFrom, IsEscalationOf, origins_below}
-use Rattle.object_escalations.specs.Escalated.{GiveEscalations}
+use Rattle.object_dependencies.specs.claims.Limits.{GiveDependencies}
+use Rattle.object_escalations.specs.claims.Entries as entries
+use Rattle.object_escalations.specs.claims.Entries.{AreTold, ComesFrom, IsEscalationOf, origins_below}
+use Rattle.object_escalations.specs.claims.Escalated.{GiveEscalations}
 use Rattle.object_escalations.specs.Laws as escalations
-use Rattle.object_groups.specs.Objects.{names_in, objects_in}
-use Rattle.object_inheritance.specs.Inherited.{name, value}
+use Rattle.object_groups.specs.claims.Objects.{names_in, objects_in}
+use Rattle.object_inheritance.specs.claims.Inherited.{name, value}
 use Rattle.object_listing.specs.Laws.{ListedAreObjects}
-use Rattle.object_listing.specs.Listing.{AreThose, contact_directives, gives_neither, host_directives, IsListed}
+use Rattle.object_listing.specs.claims.Listing.{AreThose, contact_directives, gives_neither, host_directives, IsListed}
 use Rattle.object_periods.specs.Laws.{NoLoopIsLeft, PeriodsFit}
-use Rattle.object_periods.specs.Loops.{IsLoopedAt}
+use Rattle.object_periods.specs.claims.Loops.{IsLoopedAt}
 use Rattle.object_reader.specs.declared.block.Block.{Block}
 use Rattle.object_reader.specs.declared.block.BlockKind.TheVariants.{Command, Contact, Host, Service, TimePeriod}
-use Rattle.object_listing.specs.Readings.{period_named}
-use Rattle.object_resolve.specs.Config.{command_at, IsConfigOf}
-use Rattle.object_resolve.specs.First.{IsNowhere}
-use Rattle.object_resolve.specs.Limits.{AreFewDependencies, AreFewEscalations, AreWithin}
-use Rattle.object_resolve.specs.Resolve.{IsDependencyLooped}
+use Rattle.object_listing.specs.claims.Readings.{period_named}
+use Rattle.object_resolve.specs.claims.Config.{command_at, IsConfigOf}
+use Rattle.object_resolve.specs.claims.First.{IsNowhere}
+use Rattle.object_resolve.specs.claims.Limits.{AreFewDependencies, AreFewEscalations, AreWithin}
+use Rattle.object_resolve.specs.claims.Resolve.{IsDependencyLooped}
 use Rattle.object_resolve.proofs.CountLemmas.{dependencies-few}
 use Rattle.object_groups.specs.ObjectLaws.{names-long}
-use Rattle.object_services.specs.Hosts.{AreHosts}
+use Rattle.object_services.specs.claims.Hosts.{AreHosts}
 use Rattle.object_services.specs.Laws.{CountIsTheSum}
-use Rattle.object_services.specs.Limits.{AreWithinLimit}
-use Rattle.object_services.specs.Numbers.{pairs_of}
+use Rattle.object_services.specs.claims.Limits.{AreWithinLimit}
+use Rattle.object_services.specs.claims.Numbers.{pairs_of}
 use Rattle.object_services.specs.HostLaws.{hosts-one, pairs-count}
-use Rattle.object_settings.specs.Settings.{block_origins, HasSettings, host_origins, IsGiven, IsObjectOf, Origin, service_origins}
+use Rattle.object_settings.specs.claims.Settings.{block_origins, HasSettings, host_origins, IsGiven, IsObjectOf, Origin, service_origins}
 use Rattle.object_settings.specs.ObjectLaws.{object-count}
-use Rattle.object_values.specs.Values.{number_in, number_of as value_of}
+use Rattle.object_values.specs.claims.Values.{number_in, number_of as value_of}
 use Rattle.object_values.specs.declared.options.OptionKind.{OptionKind}
 
 -- ---- values within their ranges

@@ -13,16 +13,16 @@ use Rattle.std.proofs.Math.Seq.{get_or-append_seam}
 use Rattle.lemmas.proofs.Elements.{Contains-from_filter, Contains-from_range}
 use Rattle.lemmas.proofs.Lists.{filter_range_more}
 use Rattle.object_escalations.specs.Entries.{AskForAll}
-use Rattle.object_escalations.specs.Escalated.{AreEscalated}
-use Rattle.object_groups.specs.Objects.{is_object, is_object_at, objects_in}
+use Rattle.object_escalations.specs.claims.Escalated.{AreEscalated}
+use Rattle.object_groups.specs.claims.Objects.{is_object, is_object_at, objects_in}
 use Rattle.object_groups.specs.ObjectLaws.{object-at}
 use Rattle.object_reader.specs.declared.block.Block.{Block}
 use Rattle.object_reader.specs.declared.block.BlockKind.{BlockKind}
 use Rattle.object_reader.specs.declared.block.BlockKind.TheVariants.{Host, Service}
 use Rattle.object_resolve.specs.Asked.{are_any, asked_below, gives_any, gives_any_at, service_number}
 use Rattle.object_resolve.proofs.EntryLemmas.{spoken-long}
-use Rattle.object_services.specs.Hosts.{AreHosts}
-use Rattle.object_services.specs.Limits.{AreHostLists}
+use Rattle.object_services.specs.claims.Hosts.{AreHosts}
+use Rattle.object_services.specs.claims.Limits.{AreHostLists}
 use Rattle.object_settings.specs.Settings.{AskForHosts, AskForServices}
 
 -- ---- numbers below a bound that pass a test

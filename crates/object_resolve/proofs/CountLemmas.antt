@@ -11,11 +11,11 @@ use Rattle.lemmas.proofs.Elements.{Contains-cases, Contains-here, Contains-later
 use Rattle.lemmas.proofs.Lists.{AllPairs-head, AllPairs-tail}
 use Rattle.lemmas.proofs.Numbers.{below_more, flat-count, sum-more}
 use Rattle.lemmas.proofs.Zips.{without-last}
-use Rattle.due_model.specs.Limits.{max_dependencies}
+use Rattle.due_model.specs.claims.Limits.{max_dependencies}
 use Rattle.due_model.specs.declared.config.Dependency.{Dependency}
-use Rattle.object_dependencies.specs.Entries.{AreDependencies, entries_at, entry_of, terms_at}
-use Rattle.object_dependencies.specs.Limits.{GiveDependencies, PassesLimit}
-use Rattle.object_dependencies.specs.Pairs.{ArePairs, ArePairsBelow, IsBefore, Pair}
+use Rattle.object_dependencies.specs.claims.Entries.{AreDependencies, entries_at, entry_of, terms_at}
+use Rattle.object_dependencies.specs.claims.Limits.{GiveDependencies, PassesLimit}
+use Rattle.object_dependencies.specs.claims.Pairs.{ArePairs, ArePairsBelow, IsBefore, Pair}
 use Rattle.object_reader.specs.declared.block.Block.{Block}
 
 -- ---- two lists of the same pairs in order are one

@@ -4,15 +4,15 @@ use Rattle.std.specs.Prelude.{All}
 use Rattle.std.specs.List.{range_with_len}
 use Rattle.std.proofs.lemmas.List.FromFn.{length-range_with_len}
 use Rattle.std.proofs.lemmas.Slice.Zip.{AllZip-long}
-use Rattle.due_model.specs.Limits.{max_objects}
+use Rattle.due_model.specs.claims.Limits.{max_objects}
 use Rattle.due_model.specs.declared.config.Object.{Object}
-use Rattle.object_escalations.specs.Escalated.{AreEscalated, SpeaksOf}
+use Rattle.object_escalations.specs.claims.Escalated.{AreEscalated, SpeaksOf}
 use Rattle.object_escalations.specs.Laws.{EscalatedAreObjects}
-use Rattle.object_groups.specs.Objects.{objects_in}
-use Rattle.object_listing.specs.Listing.{AreThose}
+use Rattle.object_groups.specs.claims.Objects.{objects_in}
+use Rattle.object_listing.specs.claims.Listing.{AreThose}
 use Rattle.object_reader.specs.declared.block.Block.{Block}
 use Rattle.object_reader.specs.declared.block.BlockKind.TheVariants.{Host}
-use Rattle.object_settings.specs.Settings.{AreObjectsOf}
+use Rattle.object_settings.specs.claims.Settings.{AreObjectsOf}
 use Rattle.object_settings.specs.ObjectLaws.{object-count}
 
 pub spoken-within : EscalatedAreObjects → (blocks : List Block) (hosts spoken : List (List ℕ)) (objects given : List Object) → given ≡ objects → AreObjectsOf blocks hosts objects

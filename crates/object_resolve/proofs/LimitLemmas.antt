@@ -7,28 +7,31 @@ use Rattle.std.proofs.lemmas.Bool.{cases_lt}
 use Rattle.std.proofs.lemmas.List.Elements.{Contains-get_or}
 use Rattle.std.proofs.lemmas.List.Kept.{AllPairs-from_increasing}
 use Rattle.std.proofs.lemmas.Option.{get_or_from_slice_get, none-some, slice_get-get_or, slice_get_within}
-use Rattle.due_model.specs.Limits.{max_contacts, max_dependencies, max_escalations, max_lanes, max_periods}
+use Rattle.due_model.specs.claims.Limits.{max_contacts, max_dependencies, max_escalations, max_lanes, max_periods}
 use Rattle.lemmas.proofs.Searches.{position-within}
 use Rattle.lemmas.proofs.Rising.{rising-one}
-use Rattle.object_contacts.specs.Lanes.{AreLanes, IsLane, IsUsed}
+use Rattle.object_contacts.specs.claims.Lanes.{AreLanes, IsLane, IsUsed}
 use Rattle.object_services.specs.HostLaws.{hosts-one}
+use Rattle.object_dependencies.specs.claims.Limits as dependent_claims
 use Rattle.object_dependencies.specs.Limits as dependent
-use Rattle.object_dependencies.specs.Limits.{GiveDependencies}
+use Rattle.object_dependencies.specs.claims.Limits.{GiveDependencies}
 use Rattle.object_dependencies.specs.Loops.{HasNoDependencyLoop, IsFirstLooped}
-use Rattle.object_dependencies.specs.Loops as dependencies
-use Rattle.object_dependencies.specs.Pairs.{ArePairsBelow, Pair}
+use Rattle.object_dependencies.specs.claims.Loops as dependencies
+use Rattle.object_dependencies.specs.claims.Pairs.{ArePairsBelow, Pair}
+use Rattle.object_escalations.specs.claims.Escalated as escalated_claims
 use Rattle.object_escalations.specs.Escalated as escalated
-use Rattle.object_escalations.specs.Escalated.{AreEscalated, GiveEscalations}
+use Rattle.object_escalations.specs.claims.Escalated.{AreEscalated, GiveEscalations}
 use Rattle.object_escalations.specs.Laws as escalations
-use Rattle.object_groups.specs.Objects.{names_in, objects_in}
-use Rattle.object_groups.specs.First.{IsFirst, lower}
+use Rattle.object_groups.specs.claims.Objects.{names_in, objects_in}
+use Rattle.object_groups.specs.claims.First.{IsFirst}
+use Rattle.object_groups.specs.First.{lower}
 use Rattle.object_reader.specs.declared.block.Block.{Block}
 use Rattle.object_reader.specs.declared.block.BlockKind.{BlockKind}
 use Rattle.object_reader.specs.declared.block.BlockKind.TheVariants.{Command, Contact, Service, TimePeriod}
 use Rattle.object_resolve.specs.Fault.{IsAmong, IsOfPlace}
-use Rattle.object_resolve.specs.First.{IsNowhere}
-use Rattle.object_resolve.specs.Limits.{AreFewDependencies, AreFewEscalations, AreFewOthers, AreWithin, IsOneOver, IsOver, PassesDependencies, PassesEscalations, PassesLanes, PassesOther, PassesRest}
-use Rattle.object_resolve.specs.Resolve.{IsDependencyLooped, IsFirstDependencyLooped, IsFirstOver, IsLoopedOrOver}
+use Rattle.object_resolve.specs.claims.First.{IsNowhere}
+use Rattle.object_resolve.specs.claims.Limits.{AreFewDependencies, AreFewEscalations, AreFewOthers, AreWithin, IsOneOver, IsOver, PassesDependencies, PassesEscalations, PassesLanes, PassesOther, PassesRest}
+use Rattle.object_resolve.specs.claims.Resolve.{IsDependencyLooped, IsFirstDependencyLooped, IsFirstOver, IsLoopedOrOver}
 use Rattle.object_faults.specs.declared.load_fault.BlockFault.TheVariants.{DependencyLoop, TooMany}
 use Rattle.object_faults.specs.declared.load_fault.LoadFault.{LoadFault}
 use Rattle.object_faults.specs.declared.load_fault.LoadFault.TheVariants as load
@@ -38,7 +41,8 @@ use Rattle.object_groups.specs.ObjectLaws.{names-long}
 use Rattle.object_resolve.proofs.PlaceLemmas.{line-of_first, object-within, only-first}
 use Rattle.object_services.specs.Laws.{OnePlacePasses, WithinPassesNowhere}
 use Rattle.object_services.specs.Limits as counted
-use Rattle.object_services.specs.Limits.{AreHostLists, AreWithinLimit, PassesLimit, PassesNowhere}
+use Rattle.object_services.specs.claims.Limits.{AreHostLists, AreWithinLimit, PassesLimit}
+use Rattle.object_services.specs.Limits.{PassesNowhere}
 use Rattle.object_services.specs.declared.services.LimitFault.{LimitFault}
 use Rattle.object_services.specs.declared.services.LimitFault.TheVariants as counts
 
@@ -188,13 +192,13 @@ pub escalations-first : escalations.OnePlacePasses → (blocks : List Block) (ho
 escalations-first law blocks hosts place line fault keeps are is refused =
     ((keeps, (hosts, are, passes)), (λ k early said. earlier k early said))
   where
-    passes : escalated.PassesLimit blocks hosts place
+    passes : escalated_claims.PassesLimit blocks hosts place
     passes = (subst (λ (f : LimitFault). escalated.IsRefusal blocks hosts f) is refused).passes
 
     earlier : (k : ℕ) → k < place → PassesEscalations blocks k → ⊥
     earlier k early (within, (others, others_are, other)) =
         let same : place ≡ k = law blocks hosts place k passes
-        (subst (λ (lists : List (List ℕ)). escalated.PassesLimit blocks lists k) (hosts-one blocks (objects_in blocks Service) others hosts others_are are) other) in
+        (subst (λ (lists : List (List ℕ)). escalated_claims.PassesLimit blocks lists k) (hosts-one blocks (objects_in blocks Service) others hosts others_are are) other) in
         omega (arith, early, same)
 
 -- ---- dependencies
@@ -219,13 +223,13 @@ pub dependencies-first : (blocks : List Block) (hosts : List (List ℕ)) (place 
 dependencies-first blocks hosts place line fault keeps are is refused =
     ((keeps, (hosts, are, passes)), (λ k early said. earlier k early said))
   where
-    passes : dependent.PassesLimit blocks hosts place
+    passes : dependent_claims.PassesLimit blocks hosts place
     passes = (subst (λ (f : LimitFault). dependent.IsRefusal blocks hosts f) is refused).passes
 
     earlier : (k : ℕ) → k < place → PassesDependencies blocks k → ⊥
     earlier k early (within, (others, others_are, other)) =
         let same : place ≡ k = one-passes blocks hosts place k passes
-        (subst (λ (lists : List (List ℕ)). dependent.PassesLimit blocks lists k) (hosts-one blocks (objects_in blocks Service) others hosts others_are are) other) in
+        (subst (λ (lists : List (List ℕ)). dependent_claims.PassesLimit blocks lists k) (hosts-one blocks (objects_in blocks Service) others hosts others_are are) other) in
         omega (arith, early, same)
 
 -- the first with which there are too many dependencies or others

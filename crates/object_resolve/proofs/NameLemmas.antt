@@ -5,22 +5,24 @@ use Rattle.std.specs.Option.{option_eq}
 use Rattle.std.proofs.lemmas.Bool.{cases_lt, leb-true, true≢false}
 use Rattle.std.proofs.lemmas.Option.{none-some, same_Some, slice_get-get_or}
 use Rattle.lemmas.proofs.Lists.{at-within}
-use Rattle.object_groups.specs.Objects.{is_object, objects_in, ObjectsOf}
+use Rattle.object_groups.specs.claims.Objects.{is_object, objects_in}
+use Rattle.object_groups.specs.Objects.{ObjectsOf}
 use Rattle.object_groups.specs.ObjectLaws.{names-long}
-use Rattle.object_groups.specs.First.{IsFirst, lower}
-use Rattle.object_names.specs.Named.{block_kind}
-use Rattle.object_names.specs.Unknown.{names_unknown}
+use Rattle.object_groups.specs.claims.First.{IsFirst}
+use Rattle.object_groups.specs.First.{lower}
+use Rattle.object_names.specs.claims.Named.{block_kind}
+use Rattle.object_names.specs.claims.Unknown.{names_unknown}
 use Rattle.object_groups.specs.FirstLaws.{first-either}
-use Rattle.object_reached.specs.Roles.{service_kind}
+use Rattle.object_reached.specs.claims.Roles.{service_kind}
 use Rattle.object_reader.specs.declared.block.Block.{Block}
 use Rattle.object_reader.specs.declared.block.BlockKind.TheVariants.{Service, ServiceGroup}
 use Rattle.object_resolve.specs.Fault.{IsAmong, IsOfPlace}
-use Rattle.object_resolve.specs.Names.{GivesDoubledService, IsDoubledAt, IsFirstMisnamed, IsMisnamed, IsNameFault, IsUnknownAt}
+use Rattle.object_resolve.specs.claims.Names.{GivesDoubledService, IsDoubledAt, IsFirstMisnamed, IsMisnamed, IsNameFault, IsUnknownAt}
 use Rattle.object_faults.specs.declared.load_fault.BlockFault.{BlockFault}
 use Rattle.object_faults.specs.declared.load_fault.BlockFault.TheVariants.{Doubled, UnknownName}
 use Rattle.object_faults.specs.declared.load_fault.LoadFault.{LoadFault}
 use Rattle.object_resolve.proofs.PlaceLemmas.{lower-before, object-within}
-use Rattle.object_services.specs.Doubled as services
+use Rattle.object_services.specs.claims.Doubled as services
 
 -- ---- doubled services, by their places
 

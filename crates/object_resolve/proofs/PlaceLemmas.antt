@@ -9,12 +9,12 @@ use Rattle.std.proofs.lemmas.Option.{get_or_from_slice_get, none-some, same_Some
 use Rattle.lemmas.proofs.Elements.{Contains-from_filter, Contains-from_range}
 use Rattle.lemmas.proofs.Lists.{AllPairs-head, AllPairs-tail, range_increases}
 use Rattle.lemmas.proofs.Rising.{Rises}
-use Rattle.object_groups.specs.Objects.{is_object_at, names_in, objects_in}
+use Rattle.object_groups.specs.claims.Objects.{is_object_at, names_in, objects_in}
 use Rattle.object_groups.specs.ObjectLaws.{names-long}
-use Rattle.object_groups.specs.First.{IsFirst}
+use Rattle.object_groups.specs.claims.First.{IsFirst}
 use Rattle.object_reader.specs.declared.block.Block.{Block}
 use Rattle.object_reader.specs.declared.block.BlockKind.{BlockKind}
-use Rattle.object_resolve.specs.First.{IsFirstAt, IsNowhere}
+use Rattle.object_resolve.specs.claims.First.{IsFirstAt, IsNowhere}
 
 -- ---- blocks of which something is said stand within
 

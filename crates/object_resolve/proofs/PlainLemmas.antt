@@ -7,22 +7,22 @@ use Rattle.std.proofs.lemmas.Bool.{false≢true}
 use Rattle.lemmas.proofs.Elements.{Contains-none}
 use Rattle.due_model.specs.declared.config.Object.{Object}
 use Rattle.due_model.specs.declared.config.Period.{Period}
-use Rattle.object_contacts.specs.Contacts.{IsContactOf}
-use Rattle.object_contacts.specs.Lanes.{AreLanes, IsLane, IsUsed, NamesCommand}
+use Rattle.object_contacts.specs.claims.Contacts.{IsContactOf}
+use Rattle.object_contacts.specs.claims.Lanes.{AreLanes, IsLane, IsUsed, NamesCommand}
 use Rattle.object_contacts.specs.Laws.{IsPlainContact, PlainContactHasItsOwn}
-use Rattle.object_groups.specs.Names.{Lists, numbers_of}
-use Rattle.object_groups.specs.Objects.{list_at, name_at, name_directive, names_in, objects_in}
-use Rattle.object_inheritance.specs.Inherited.{own, own_entries}
+use Rattle.object_groups.specs.claims.Names.{Lists, numbers_of}
+use Rattle.object_groups.specs.claims.Objects.{list_at, name_at, name_directive, names_in, objects_in}
+use Rattle.object_inheritance.specs.claims.Inherited.{own, own_entries}
 use Rattle.object_inheritance.specs.Laws.{PlainBlockHasItsOwn, PlainListHasItsOwn}
-use Rattle.object_periods.specs.Periods.{IsPeriodOf, line_ranges}
+use Rattle.object_periods.specs.claims.Periods.{IsPeriodOf, line_ranges}
 use Rattle.object_reader.specs.declared.block.Block.{Block}
 use Rattle.object_reader.specs.declared.block.BlockKind.{BlockKind}
 use Rattle.object_reader.specs.declared.block.BlockKind.TheVariants.{Command, Contact, Host, HostGroup, Service, TimePeriod}
 use Rattle.object_resolve.specs.PlainLaws.{AreAllPlain, ArePlainHosts, IsPlainGiven, IsPlainLane, IsPlainPeriod, IsPlainUsed, plain_entries, plain_name, plain_names, PlainConfigIsTheirOwn}
-use Rattle.object_services.specs.Hosts.{AreHosts, HasHost}
+use Rattle.object_services.specs.claims.Hosts.{AreHosts, HasHost}
 use Rattle.object_settings.specs.Laws.{IsPlain, PlainHostHasItsOwn, PlainServiceHasItsOwn}
-use Rattle.object_settings.specs.Settings.{host_origins, host_place, IsGiven, IsObjectOf, Origin, service_origins}
-use Rattle.object_values.specs.Ranges.{weekdays}
+use Rattle.object_settings.specs.claims.Settings.{host_origins, host_place, IsGiven, IsObjectOf, Origin, service_origins}
+use Rattle.object_values.specs.claims.Ranges.{weekdays}
 
 -- ---- lists that go together, place by place
 

@@ -3,14 +3,14 @@ use Rattle.std.proofs.Common.{◌≡◌, ℕ, Bool, true, false, List, Result, O
 use Rattle.std.proofs.lemmas.Option.{none-some}
 use Rattle.due_model.specs.declared.config.Config.{Config}
 use Rattle.object_escalations.specs.Laws as escalations
-use Rattle.object_faults.specs.Faults as values
-use Rattle.object_inheritance.specs.Faults as templates
+use Rattle.object_faults.specs.claims.Faults as values
+use Rattle.object_inheritance.specs.claims.Faults as templates
 use Rattle.object_reader.specs.declared.block.Block.{Block}
-use Rattle.object_resolve.specs.First.{IsFirstAt, IsNowhere}
-use Rattle.object_periods.specs.Loops.{IsLoopedAt}
+use Rattle.object_resolve.specs.claims.First.{IsFirstAt, IsNowhere}
+use Rattle.object_periods.specs.claims.Loops.{IsLoopedAt}
 use Rattle.object_resolve.specs.Fault.{IsAmong}
-use Rattle.object_resolve.specs.Names.{IsFirstMisnamed, IsMisnamed}
-use Rattle.object_resolve.specs.Resolve.{IsFirstLooped, IsLoopedOrOver, IsMistemplated, IsMisvalued, IsRefusal, IsResolved, IsUnfit}
+use Rattle.object_resolve.specs.claims.Names.{IsFirstMisnamed, IsMisnamed}
+use Rattle.object_resolve.specs.claims.Resolve.{IsFirstLooped, IsLoopedOrOver, IsMistemplated, IsMisvalued, IsRefusal, IsResolved, IsUnfit}
 use Rattle.object_faults.specs.declared.load_fault.LoadFault.{LoadFault}
 use Rattle.object_faults.specs.declared.load_fault.LoadFault.TheVariants as load
 use Rattle.object_faults.specs.declared.load_fault.BlockFault.{BlockFault}

@@ -6,14 +6,14 @@ use Rattle.object_reader.specs.declared.block.Block.{Block}
 use Rattle.object_reader.specs.declared.fault.ReadFault.{ReadFault}
 use Rattle.object_reader.specs.declared.fault.ReadFault.TheVariants as read
 use Rattle.object_reader.specs.Blocks.{Gives}
-use Rattle.object_reader.specs.Grammar.{IsObjectText, IsRefused}
+use Rattle.object_reader.specs.claims.Grammar.{IsObjectText, IsRefused}
 use Rattle.object_faults.specs.declared.load_fault.LoadFault.{LoadFault}
 use Rattle.object_faults.specs.declared.load_fault.LoadFault.TheVariants as load
 use Rattle.object_faults.specs.LoadFaults.{of_read}
 use Rattle.object_resolve.specs.Fault.{IsAmong}
 use Rattle.object_resolve.specs.Laws.{ResolvedIsUnrefused}
-use Rattle.object_resolve.specs.Resolve.{IsRefusal, IsResolved}
-use Rattle.object_resolve.specs.Text.{IsTextFault, blocks_read, text_read}
+use Rattle.object_resolve.specs.claims.Resolve.{IsRefusal, IsResolved}
+use Rattle.object_resolve.specs.claims.Text.{IsTextFault, blocks_read, text_read}
 
 -- ---- what the reading of a text says of others
 

@@ -1,11 +1,11 @@
 -- Of which blocks the contacts are asked for: of those that give objects or escalations, which have them.
 use Rattle.std.specs.Prelude.{ℕ, Bool, ◌&&◌, ◌||◌, ◌==◌, not, List, [], length, map, slice_index_or}
 use Rattle.std.specs.List.{range_with_len}
-use Rattle.object_groups.specs.Objects.{is_object_at}
+use Rattle.object_groups.specs.claims.Objects.{is_object_at}
 use Rattle.object_listing.specs.Contacts.{AskedContacts}
 use Rattle.object_reader.specs.declared.block.Block.{Block}
 use Rattle.object_reader.specs.declared.block.BlockKind.TheVariants.{Host, Service}
-use Rattle.object_services.specs.Limits.{objects_below}
+use Rattle.object_services.specs.claims.Limits.{objects_below}
 
 -- whether there are any
 abbrev pub are_any : List ℕ → Bool

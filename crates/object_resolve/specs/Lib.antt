@@ -1,11 +1,7 @@
+pub mod claims
 pub mod Fault
-pub mod First
-pub mod Names
 pub mod Limits
 pub mod Asked
-pub mod Config
-pub mod Resolve
 pub mod Laws
 pub mod PlainLaws
-pub mod Text
 pub mod Tables

@@ -5,24 +5,24 @@ use Rattle.std.specs.List.{AllZip}
 use Rattle.due_model.specs.declared.config.Config.{Config}
 use Rattle.due_model.specs.declared.config.Object.{Object}
 use Rattle.due_model.specs.declared.config.Period.{Period}
-use Rattle.object_contacts.specs.Lanes.{AreLanes, NamesCommand}
+use Rattle.object_contacts.specs.claims.Lanes.{AreLanes, NamesCommand}
 use Rattle.object_contacts.specs.Laws.{IsPlainContact}
-use Rattle.object_dependencies.specs.Entries.{AreDependencies}
-use Rattle.object_escalations.specs.Entries.{AreEntriesOf}
-use Rattle.object_escalations.specs.Escalated.{AreEscalated}
-use Rattle.object_groups.specs.Names.{Lists, numbers_of}
-use Rattle.object_groups.specs.Objects.{name_directive, names_in, objects_in}
-use Rattle.object_inheritance.specs.Inherited.{own}
-use Rattle.object_listing.specs.Listing.{AreThose}
-use Rattle.object_periods.specs.Periods.{line_ranges}
+use Rattle.object_dependencies.specs.claims.Entries.{AreDependencies}
+use Rattle.object_escalations.specs.claims.Entries.{AreEntriesOf}
+use Rattle.object_escalations.specs.claims.Escalated.{AreEscalated}
+use Rattle.object_groups.specs.claims.Names.{Lists, numbers_of}
+use Rattle.object_groups.specs.claims.Objects.{name_directive, names_in, objects_in}
+use Rattle.object_inheritance.specs.claims.Inherited.{own}
+use Rattle.object_listing.specs.claims.Listing.{AreThose}
+use Rattle.object_periods.specs.claims.Periods.{line_ranges}
 use Rattle.object_reader.specs.declared.block.Block.{Block}
 use Rattle.object_reader.specs.declared.block.BlockKind.{BlockKind}
 use Rattle.object_reader.specs.declared.block.BlockKind.TheVariants.{Command, Contact, Host, Service, TimePeriod}
-use Rattle.object_resolve.specs.Config.{IsConfigOf}
+use Rattle.object_resolve.specs.claims.Config.{IsConfigOf}
 use Rattle.object_listing.specs.Plain.{plain_list}
 use Rattle.object_settings.specs.Laws.{IsPlainHost, IsPlainService}
-use Rattle.object_settings.specs.Settings.{host_origins, Origin, service_origins}
-use Rattle.object_values.specs.Ranges.{weekdays}
+use Rattle.object_settings.specs.claims.Settings.{host_origins, Origin, service_origins}
+use Rattle.object_values.specs.claims.Ranges.{weekdays}
 
 -- The blocks are plain: none uses templates or lists contact groups, and no service block lists host groups. Groups
 -- may be there; nothing of hosts, services and contacts comes from them.

@@ -1,11 +1,11 @@
 -- What is made of blocks once, for the passes after the first two.
 use Rattle.std.specs.Prelude.{◌≡◌, ℕ, ◌+◌, ◌<◌, ◌^◌, List, length}
 use Rattle.object_groups.specs.declared.groups.GroupKind.TheVariants.{HostGroups}
-use Rattle.object_groups.specs.Objects.{names_in}
+use Rattle.object_groups.specs.claims.Objects.{names_in}
 use Rattle.object_reader.specs.declared.block.Block.{Block}
 use Rattle.object_reader.specs.declared.block.BlockKind.TheVariants.{Host, Service}
 use Rattle.object_resolve.specs.declared.tables.Tables.{Tables}
-use Rattle.object_services.specs.Numbers.{Pair, pairs_of}
+use Rattle.object_services.specs.claims.Numbers.{Pair, pairs_of}
 
 pub record AreTables (blocks : List Block) (tables : Tables) : Type 0 where
   pub objects_are : tables.objects.now ≡ blocks

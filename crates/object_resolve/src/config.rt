@@ -1,17 +1,18 @@
 //! The configuration of blocks that have no fault.
 
 ghost use Rattle.std.specs.Prelude.{◌≡◌, ◌≤◌, length, map, IfOk};
-ghost use Rattle.due_model.specs.Limits.{max_lanes};
-ghost use Rattle.object_contacts.specs.Contacts.{AreContactsOf};
-ghost use Rattle.object_dependencies.specs.Entries.{AreDependencies};
-ghost use Rattle.object_escalations.specs.Entries.{AreEntriesOf};
-ghost use Rattle.object_groups.specs.Objects.{names_in};
+ghost use Rattle.due_model.specs.claims.Limits.{max_lanes};
+ghost use Rattle.object_contacts.specs.claims.Contacts.{AreContactsOf};
+ghost use Rattle.object_dependencies.specs.claims.Entries.{AreDependencies};
+ghost use Rattle.object_escalations.specs.claims.Entries.{AreEntriesOf};
+ghost use Rattle.object_groups.specs.claims.Objects.{names_in};
 ghost use Rattle.object_reader.specs.declared.block.BlockKind.TheVariants.{TimePeriod};
 ghost use Rattle.object_resolve.specs.Asked.{asked_contacts};
-ghost use Rattle.object_resolve.specs.Config.{IsConfigOf, command_at};
-ghost use Rattle.object_resolve.specs.Limits.{AreCounts, AreFewOthers, AreWithin};
+ghost use Rattle.object_resolve.specs.claims.Config.{IsConfigOf, command_at};
+ghost use Rattle.object_resolve.specs.claims.Limits.{AreFewOthers, AreWithin};
+ghost use Rattle.object_resolve.specs.Limits.{AreCounts};
 ghost use Rattle.object_resolve.specs.Tables.{AreTables};
-ghost use Rattle.object_settings.specs.Settings.{AreObjectsOf};
+ghost use Rattle.object_settings.specs.claims.Settings.{AreObjectsOf};
 
 use crate::asked::asked_of;
 use crate::limits::Counts;

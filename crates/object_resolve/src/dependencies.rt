@@ -2,17 +2,17 @@
 //! dependents and masters of each block.
 
 ghost use Rattle.std.specs.Prelude.{◌≡◌, ◌≤◌, length, sum_by, IfErr, IfNone, IfOk, IfSome, OnOk};
-ghost use Rattle.due_model.specs.Limits.{max_dependencies};
+ghost use Rattle.due_model.specs.claims.Limits.{max_dependencies};
 ghost use Rattle.object_dependencies.specs.Limits as dependent;
 ghost use Rattle.object_dependencies.specs.Loops.{HasNoDependencyLoop, IsFirstLooped};
-ghost use Rattle.object_dependencies.specs.Pairs.{ArePairsBelow};
-ghost use Rattle.object_groups.specs.Objects.{objects_in};
+ghost use Rattle.object_dependencies.specs.claims.Pairs.{ArePairsBelow};
+ghost use Rattle.object_groups.specs.claims.Objects.{objects_in};
 ghost use Rattle.object_reader.specs.declared.block.BlockKind.TheVariants.{Service};
 ghost use Rattle.object_resolve.specs.Fault.{IsAmong};
-ghost use Rattle.object_resolve.specs.First.{IsNowhere};
-ghost use Rattle.object_resolve.specs.Resolve.{IsDependencyLooped, IsFirstDependencyLooped};
+ghost use Rattle.object_resolve.specs.claims.First.{IsNowhere};
+ghost use Rattle.object_resolve.specs.claims.Resolve.{IsDependencyLooped, IsFirstDependencyLooped};
 ghost use Rattle.object_resolve.specs.Tables.{AreServices, AreTables};
-ghost use Rattle.object_services.specs.Limits.{AreHostLists, AreWithinLimit};
+ghost use Rattle.object_services.specs.claims.Limits.{AreHostLists, AreWithinLimit};
 
 use crate::fault::of_place;
 use crate::tables::Tables;

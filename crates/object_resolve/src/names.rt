@@ -1,12 +1,12 @@
 //! Names that are given twice, and names that nothing has.
 
 ghost use Rattle.std.specs.Prelude.{◌≡◌, IfErr, IfOk, OnOk};
-ghost use Rattle.object_groups.specs.First.{IsFirst};
+ghost use Rattle.object_groups.specs.claims.First.{IsFirst};
 ghost use Rattle.object_resolve.specs.Fault.{IsAmong};
-ghost use Rattle.object_resolve.specs.First.{IsNowhere};
-ghost use Rattle.object_resolve.specs.Names.{GivesDoubledService, IsDoubledAt, IsFirstMisnamed};
-ghost use Rattle.object_resolve.specs.Names.{IsMisnamed};
-ghost use Rattle.object_resolve.specs.Names.{HasUnknownPair, IsUnknownAt};
+ghost use Rattle.object_resolve.specs.claims.First.{IsNowhere};
+ghost use Rattle.object_resolve.specs.claims.Names.{GivesDoubledService, IsDoubledAt, IsFirstMisnamed};
+ghost use Rattle.object_resolve.specs.claims.Names.{IsMisnamed};
+ghost use Rattle.object_resolve.specs.claims.Names.{HasUnknownPair, IsUnknownAt};
 ghost use Rattle.object_resolve.specs.Tables.{AreTables};
 
 use crate::fault::of_place;

@@ -2,16 +2,18 @@
 //! Inheritance").
 
 ghost use Rattle.std.specs.Prelude.{◌≡◌, ◌⊎◌, IfErr, IfOk, OnOk};
-ghost use Rattle.object_faults.specs.Faults as values;
+ghost use Rattle.object_faults.specs.claims.Faults as values;
+ghost use Rattle.object_inheritance.specs.claims.Faults as templates_claims;
 ghost use Rattle.object_inheritance.specs.Faults as templates;
-ghost use Rattle.object_periods.specs.Loops.{IsLoopedAt};
+ghost use Rattle.object_periods.specs.claims.Loops.{IsLoopedAt};
 ghost use Rattle.object_resolve.specs.Fault.{IsAmong};
-ghost use Rattle.object_resolve.specs.First.{IsNowhere};
-ghost use Rattle.object_resolve.specs.Limits.{AreCounts, AreWithin};
-ghost use Rattle.object_resolve.specs.Names.{IsMisnamed};
-ghost use Rattle.object_resolve.specs.Resolve.{IsDependencyLooped, IsFirstLooped, IsMistemplated};
-ghost use Rattle.object_resolve.specs.Resolve.{IsMisvalued};
-ghost use Rattle.object_resolve.specs.Resolve.{IsFitting, IsRefusal, IsResolved, IsUnfit};
+ghost use Rattle.object_resolve.specs.claims.First.{IsNowhere};
+ghost use Rattle.object_resolve.specs.claims.Limits.{AreWithin};
+ghost use Rattle.object_resolve.specs.Limits.{AreCounts};
+ghost use Rattle.object_resolve.specs.claims.Names.{IsMisnamed};
+ghost use Rattle.object_resolve.specs.claims.Resolve.{IsDependencyLooped, IsFirstLooped, IsMistemplated};
+ghost use Rattle.object_resolve.specs.claims.Resolve.{IsMisvalued};
+ghost use Rattle.object_resolve.specs.claims.Resolve.{IsFitting, IsRefusal, IsResolved, IsUnfit};
 ghost use Rattle.object_resolve.specs.Tables.{AreTables};
 
 use crate::config::config_of;
@@ -32,10 +34,10 @@ use std::alloc::Global;
 /// The templates of the blocks, where neither their templates nor their values have a fault.
 fn check_values(alloc: Global, blocks: &[Block]) -> Result<Templates, LoadFault>
     ensures blocks { IfOk result (λ made. made ≡ blocks.now) }
-    ensures templates { OnOk result (templates.AreFree blocks.now) }
+    ensures templates { OnOk result (templates_claims.AreFree blocks.now) }
     ensures values { OnOk result (values.AreFree blocks.now) }
     ensures fault { IfErr result (IsAmong (λ line fault. IsMistemplated blocks.now line fault
-        ⊎ (templates.AreFree blocks.now × IsMisvalued blocks.now line fault))) }
+        ⊎ (templates_claims.AreFree blocks.now × IsMisvalued blocks.now line fault))) }
 {
     let templates = Templates::new(alloc, blocks)?;
     check(alloc, &templates)?;

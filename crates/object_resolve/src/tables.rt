@@ -1,10 +1,10 @@
 //! What is made of blocks once, for the passes after the first two.
 
 ghost use Rattle.std.specs.Prelude.{◌≡◌, slice_get, IfOk};
-ghost use Rattle.object_groups.specs.Objects.{objects_in};
+ghost use Rattle.object_groups.specs.claims.Objects.{objects_in};
 ghost use Rattle.object_reader.specs.declared.block.BlockKind.TheVariants.{Service};
 ghost use Rattle.object_resolve.specs.Tables.{AreTables};
-ghost use Rattle.object_services.specs.Limits.{AreHostLists};
+ghost use Rattle.object_services.specs.claims.Limits.{AreHostLists};
 
 use object_groups::groups::{GroupKind, Groups};
 use object_groups::objects::Objects;

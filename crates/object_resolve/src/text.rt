@@ -1,13 +1,13 @@
 //! Object text, from its bytes to its configuration.
 
 ghost use Rattle.std.specs.Prelude.{◌≡◌, ◌⊎◌, List, Ok, Err, IfErr, IfOk, OnOk};
-ghost use Rattle.due_model.specs.Accepted.{IsAccepted};
+ghost use Rattle.due_model.specs.claims.Accepted.{IsAccepted};
 ghost use Rattle.due_model.specs.declared.config.Config.{Config};
 ghost use Rattle.object_reader.specs.Blocks.{Gives};
-ghost use Rattle.object_reader.specs.Grammar.{IsObjectText, IsRefused};
+ghost use Rattle.object_reader.specs.claims.Grammar.{IsObjectText, IsRefused};
 ghost use Rattle.object_reader.specs.declared.block.Block.{Block};
 ghost use Rattle.object_reader.specs.declared.fault.ReadFault.{ReadFault};
-ghost use Rattle.object_resolve.specs.Text.{IsTextFault, IsTextOf, blocks_read, text_read};
+ghost use Rattle.object_resolve.specs.claims.Text.{IsTextFault, IsTextOf, blocks_read, text_read};
 ghost use Rattle.object_faults.specs.declared.load_fault.LoadFault.{LoadFault};
 ghost use Rattle.object_faults.specs.declared.load_fault.LoadFault.TheVariants.{NoMemory};
 

@@ -9,11 +9,11 @@ use Rattle.std.proofs.lemmas.List.Concat.{flat_map-cons}
 use Rattle.std.proofs.lemmas.List.Elements.{All-from_get_or, Contains-get_or}
 use Rattle.lemmas.proofs.Elements.{Contains-cases, Contains-from_flat_map, Contains-from_range, Contains-none}
 use Rattle.lemmas.proofs.Searches.{position-within}
-use Rattle.object_groups.specs.Names.{number_of}
-use Rattle.object_pairs.specs.Members.{place_of_pair, places_of}
-use Rattle.object_pairs.specs.Pairs.{by_two, NamedPair}
-use Rattle.object_services.specs.Numbers.{is_pair, Pair, pairs_of, service_number}
-use Rattle.object_service_groups.specs.Groups.{owners_of}
+use Rattle.object_groups.specs.claims.Names.{number_of}
+use Rattle.object_pairs.specs.claims.Members.{place_of_pair, places_of}
+use Rattle.object_pairs.specs.claims.Pairs.{by_two, NamedPair}
+use Rattle.object_services.specs.claims.Numbers.{is_pair, Pair, pairs_of, service_number}
+use Rattle.object_service_groups.specs.claims.Groups.{owners_of}
 
 -- ---- lists of lists
 

@@ -6,29 +6,32 @@ use Rattle.std.proofs.lemmas.List.{append-nil, get_or-map, get_or_default, lengt
 use Rattle.std.proofs.lemmas.List.Concat.{flat_map-cons}
 use Rattle.std.proofs.lemmas.List.Elements.{Contains-get_or}
 use Rattle.graph.specs.declared.edges.Edge.{Edge}
-use Rattle.graph.specs.Chains.{Reaches}
-use Rattle.graph.specs.Edges.{HasEdges, IsWithin, Leads}
+use Rattle.graph.specs.claims.Chains.{Reaches}
+use Rattle.graph.specs.claims.Edges.{Leads}
+use Rattle.graph.specs.Edges.{HasEdges, IsWithin}
 use Rattle.lemmas.proofs.Chains.{Chain-map}
 use Rattle.lemmas.proofs.Elements.{Contains-from_range, Contains-here, Contains-later}
 use Rattle.object_groups.specs.declared.lists.Direction.{Direction}
 use Rattle.object_groups.specs.declared.lists.Direction.TheVariants.{FromNames, ToNames}
 use Rattle.object_groups.specs.declared.lists.ListNodes.{ListNodes}
 use Rattle.object_groups.specs.ListEdges.{between, edge, edges_at, IsEdge, LeadOver, list_edges, nodes_at}
-use Rattle.object_groups.specs.Names.{numbers_of}
-use Rattle.object_groups.specs.Objects.{list_at, names_in, objects_in, ObjectsOf}
+use Rattle.object_groups.specs.claims.Names.{numbers_of}
+use Rattle.object_groups.specs.claims.Objects.{list_at, names_in, objects_in}
+use Rattle.object_groups.specs.Objects.{ObjectsOf}
 use Rattle.object_groups.specs.ObjectLaws.{names-long, numbers-within}
 use Rattle.object_groups.specs.ReachLaws.{lead-none, lead-on}
 use Rattle.object_inheritance.specs.Columns.{Column}
-use Rattle.object_pairs.specs.Members.{places_of}
+use Rattle.object_pairs.specs.claims.Members.{places_of}
 use Rattle.object_reader.specs.declared.block.Block.{Block}
 use Rattle.object_reader.specs.declared.block.BlockKind.{BlockKind}
 use Rattle.object_reader.specs.declared.block.BlockKind.TheVariants.{Host, Service, ServiceGroup}
-use Rattle.object_services.specs.Hosts.{AreHosts}
-use Rattle.object_services.specs.Limits.{AreHostLists}
-use Rattle.object_services.specs.Numbers.{Pair, pairs_of}
+use Rattle.object_services.specs.claims.Hosts.{AreHosts}
+use Rattle.object_services.specs.claims.Limits.{AreHostLists}
+use Rattle.object_services.specs.claims.Numbers.{Pair, pairs_of}
 use Rattle.object_services.specs.HostLaws.{hosts-one}
-use Rattle.object_service_groups.specs.Groups.{AreNodes, AreServiceGroups, grouping, groups_in, LeadsToMembers, listed_in, named_in, owners_of}
-use Rattle.object_service_groups.specs.Members.{Grouping, IsMember}
+use Rattle.object_service_groups.specs.claims.Groups.{grouping, groups_in, named_in, owners_of}
+use Rattle.object_service_groups.specs.Groups.{AreNodes, AreServiceGroups, LeadsToMembers, listed_in}
+use Rattle.object_service_groups.specs.claims.Members.{Grouping, IsMember}
 use Rattle.object_service_groups.specs.Nodes.{edges_in, first_group, IsGraphOf, IsKeptOf, named_edges, node_count, own_edges, owner_edges, subgroup_edges}
 use Rattle.object_service_groups.specs.Pairs.{services_at}
 use Rattle.object_service_groups.proofs.ElementLemmas.{mapped-within, owners-long, owners-within, place-there, places-within}

@@ -16,14 +16,14 @@ use Rattle.object_groups.specs.declared.lists.Direction.TheVariants.{ToNames}
 use Rattle.object_groups.specs.declared.shared.Parts.{Parts}
 use Rattle.object_groups.specs.declared.shared.SharedList.{SharedList}
 use Rattle.object_groups.specs.ListEdges.{edge, LeadOver, list_edges, node_before}
-use Rattle.object_groups.specs.Objects.{list_at}
+use Rattle.object_groups.specs.claims.Objects.{list_at}
 use Rattle.object_groups.specs.ReachLaws.{InParts, lead-over, OfList, StandFor}
 use Rattle.object_groups.specs.Shared.{AreShared, AreSharedLists, HasParts, list_before, nearest_at, own_part, wholes_of}
 use Rattle.object_groups.specs.SharedLaws.{before-taken, below-less, below-taken, shared-at, whole-at, whole-is, wholes-long}
-use Rattle.object_pairs.specs.Members.{place_of_pair, places_of}
-use Rattle.object_pairs.specs.Pairs.{by_two, NamedPair}
+use Rattle.object_pairs.specs.claims.Members.{place_of_pair, places_of}
+use Rattle.object_pairs.specs.claims.Pairs.{by_two, NamedPair}
 use Rattle.object_reader.specs.declared.block.Block.{Block}
-use Rattle.object_services.specs.Numbers.{Pair}
+use Rattle.object_services.specs.claims.Numbers.{Pair}
 use Rattle.object_values.specs.Values.{texts}
 use Rattle.object_service_groups.specs.Pairs.{entries_of, going_on, inner_nodes, left_over, lefts_in, named_by, nodes_by, paired, pair_nodes, services_at, shared_nodes, top_nodes, whole_nodes}
 use Rattle.object_service_groups.proofs.ElementLemmas.{found-within, place-within, places-within}

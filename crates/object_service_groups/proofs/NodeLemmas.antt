@@ -7,7 +7,7 @@ use Rattle.std.proofs.lemmas.List.{get_or_past}
 use Rattle.std.proofs.lemmas.Option.{get_or_from_slice_get, slice_get-get_or}
 use Rattle.std.proofs.lemmas.List.Elements.{All-from_get_or, Contains-append_left, Contains-append_right, Contains-append_cases, Contains-get_or}
 use Rattle.graph.specs.declared.edges.Edge.{Edge}
-use Rattle.graph.specs.Chains.{Chain, Reaches}
+use Rattle.graph.specs.claims.Chains.{Chain, Reaches}
 use Rattle.graph.specs.Edges.{IsWithin}
 use Rattle.graph.specs.Reach.{IsReached}
 use Rattle.lemmas.proofs.Elements.{Contains-from_map, Contains-from_range, Contains-map, Contains-none, Contains-range}
@@ -16,8 +16,8 @@ use Rattle.object_groups.specs.declared.lists.Direction.TheVariants.{FromNames, 
 use Rattle.object_groups.specs.ListEdges.{edge, IsEdge}
 use Rattle.object_groups.specs.NodeLaws.{edge-from, edge-to}
 use Rattle.object_groups.specs.ReachLaws.{list-edge, of-list}
-use Rattle.object_listing.specs.Listing.{AreThose}
-use Rattle.object_service_groups.specs.Members.{Grouping, Holds, Includes, IsMember}
+use Rattle.object_listing.specs.claims.Listing.{AreThose}
+use Rattle.object_service_groups.specs.claims.Members.{Grouping, Holds, Includes, IsMember}
 use Rattle.object_service_groups.specs.Nodes.{AreBelow, edges_in, first_group, group_nodes, IsGraphOf, named_edges, node_count, own_edges, owner_edges, subgroup_edges}
 use Rattle.object_service_groups.proofs.ElementLemmas.{place-there}
 

@@ -1,12 +1,12 @@
 -- Laws of service groups, of any groups.
 use Rattle.std.specs.Prelude.{◌≡◌, ℕ, ◌<◌, List, [], length, Some, slice_get, slice_index_or, Contains, ◌⊎◌, ◌↔◌}
-use Rattle.graph.specs.Chains.{Reaches}
-use Rattle.object_groups.specs.Objects.{names_in}
+use Rattle.graph.specs.claims.Chains.{Reaches}
+use Rattle.object_groups.specs.claims.Objects.{names_in}
 use Rattle.object_reader.specs.declared.block.Block.{Block}
 use Rattle.object_reader.specs.declared.block.BlockKind.TheVariants.{Service}
-use Rattle.object_services.specs.Numbers.{pairs_of}
-use Rattle.object_service_groups.specs.Groups.{grouping}
-use Rattle.object_service_groups.specs.Members.{Grouping, Holds, Includes, IsMember}
+use Rattle.object_services.specs.claims.Numbers.{pairs_of}
+use Rattle.object_service_groups.specs.claims.Groups.{grouping}
+use Rattle.object_service_groups.specs.claims.Members.{Grouping, Holds, Includes, IsMember}
 
 -- the groups hold the same services, and list the same groups but that `from` now lists `to` too
 pub record AddsInclusion (g more : Grouping) (from to : ℕ) : Type 0 where

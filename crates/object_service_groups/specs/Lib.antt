@@ -1,4 +1,4 @@
-pub mod Members
+pub mod claims
 pub mod Groups
 pub mod Nodes
 pub mod Pairs

@@ -5,12 +5,12 @@
 use Rattle.std.specs.Prelude.{ℕ, ◌+◌, ◌<◌, ◌≤◌, ◌↔◌, List, [], ◌++◌, length, map, slice_index_or}
 use Rattle.std.specs.List.{range_with_len}
 use Rattle.graph.specs.declared.edges.Edge.{Edge}
-use Rattle.graph.specs.Chains.{Reaches}
-use Rattle.graph.specs.Edges.{Leads}
+use Rattle.graph.specs.claims.Chains.{Reaches}
+use Rattle.graph.specs.claims.Edges.{Leads}
 use Rattle.object_groups.specs.declared.lists.Direction.TheVariants.{FromNames, ToNames}
 use Rattle.object_groups.specs.ListEdges.{edge, IsEdge, list_edges}
 pub use Rattle.object_groups.specs.Nodes.{AreBelow}
-use Rattle.object_service_groups.specs.Members.{Grouping}
+use Rattle.object_service_groups.specs.claims.Members.{Grouping}
 
 -- the edges to the services from their blocks, where the node of the first block is `middle`
 abbrev pub owner_edges : (middle : ℕ) → (owners : List ℕ) → List Edge

@@ -5,12 +5,12 @@ use Rattle.std.specs.Option.{option_map, option_map_or, option_to_list}
 use Rattle.object_groups.specs.declared.shared.Parts.{Parts}
 use Rattle.object_groups.specs.declared.shared.SharedList.{SharedList}
 use Rattle.object_groups.specs.ListEdges.{node_before}
-use Rattle.object_groups.specs.Objects.{list_at}
+use Rattle.object_groups.specs.claims.Objects.{list_at}
 use Rattle.object_groups.specs.Shared.{list_before, nearest_at, own_part}
-use Rattle.object_pairs.specs.Members.{place_of_pair, places_of}
-use Rattle.object_pairs.specs.Pairs.{NamedPair}
+use Rattle.object_pairs.specs.claims.Members.{place_of_pair, places_of}
+use Rattle.object_pairs.specs.claims.Pairs.{NamedPair}
 use Rattle.object_reader.specs.declared.block.Block.{Block}
-use Rattle.object_services.specs.Numbers.{Pair}
+use Rattle.object_services.specs.claims.Numbers.{Pair}
 
 -- the entries two by two, without one that is left over
 abbrev pub paired : List (List ℕ) → List NamedPair

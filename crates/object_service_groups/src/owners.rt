@@ -1,7 +1,7 @@
 //! The service block of each service.
 
 ghost use Rattle.std.specs.Prelude.{◌≡◌, ◌++◌, length, map, replicate, IfOk, OnOk};
-ghost use Rattle.object_service_groups.specs.Groups.{owners_of};
+ghost use Rattle.object_service_groups.specs.claims.Groups.{owners_of};
 
 use object_services::services::ServiceHosts;
 use std::alloc::{AllocError, Global};

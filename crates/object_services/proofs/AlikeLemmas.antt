@@ -14,15 +14,16 @@ use Rattle.std.proofs.lemmas.Slice.Eq.{bytes_eq-Decides}
 use Rattle.lemmas.proofs.Lists.{filter_range_more, range_increases}
 use Rattle.graph.specs.declared.edges.Edge.{Edge}
 use Rattle.graph.specs.Edges.{ends_of, IsWithin}
-use Rattle.object_groups.specs.Names.{number_of}
-use Rattle.object_groups.specs.Objects.{names_in}
+use Rattle.object_groups.specs.claims.Names.{number_of}
+use Rattle.object_groups.specs.claims.Objects.{names_in}
 use Rattle.object_reader.specs.declared.block.Block.{Block}
 use Rattle.object_reader.specs.declared.block.BlockKind.TheVariants.{Service}
 use Rattle.object_services.specs.Alike.{alike, is_alike, IsDoubledBelow, SharesAmong}
-use Rattle.object_services.specs.Doubled.{description_of, IsDoubled}
+use Rattle.object_services.specs.claims.Doubled.{description_of, IsDoubled}
 use Rattle.lemmas.proofs.Elements.{Contains-filter, Contains-from_filter, Contains-from_range, Contains-range}
 use Rattle.lemmas.proofs.Searches.{place-le}
-use Rattle.object_groups.specs.First.{IsFirst, lower}
+use Rattle.object_groups.specs.claims.First.{IsFirst}
+use Rattle.object_groups.specs.First.{lower}
 use Rattle.object_groups.specs.FirstLaws.{first-lower, first-same}
 
 -- ---- the first place of a name

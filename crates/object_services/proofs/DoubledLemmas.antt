@@ -11,15 +11,15 @@ use Rattle.std.proofs.lemmas.List.Folds.{list_any-append}
 use Rattle.std.proofs.lemmas.List.Kept.{AllPairs-from_increasing}
 use Rattle.graph.specs.Reach.{Gains}
 use Rattle.object_listing.specs.Laws.{ListedAreObjects}
-use Rattle.object_listing.specs.Listing.{host_directives}
-use Rattle.object_groups.specs.Objects.{names_in}
+use Rattle.object_listing.specs.claims.Listing.{host_directives}
+use Rattle.object_groups.specs.claims.Objects.{names_in}
 use Rattle.object_reader.specs.declared.block.Block.{Block}
 use Rattle.object_reader.specs.declared.block.BlockKind.TheVariants.{Host}
 use Rattle.object_services.specs.Alike.{HasSeen, is_among, SharesAmong}
-use Rattle.object_services.specs.Doubled.{place_of}
-use Rattle.object_services.specs.Hosts.{AreHosts, HasHost}
+use Rattle.object_services.specs.claims.Doubled.{place_of}
+use Rattle.object_services.specs.claims.Hosts.{AreHosts, HasHost}
 use Rattle.lemmas.proofs.Elements.{Contains-cases, Contains-here, Contains-later, Contains-none}
-use Rattle.object_groups.specs.First.{IsFirst}
+use Rattle.object_groups.specs.claims.First.{IsFirst}
 
 -- ---- what some of a list pass
 

@@ -5,11 +5,12 @@ use Rattle.std.proofs.lemmas.Bool.{cases_lt}
 use Rattle.std.proofs.lemmas.List.{append-nil}
 use Rattle.lemmas.proofs.Zips.{without-last}
 use Rattle.lemmas.proofs.Numbers.{sum-more}
-use Rattle.object_groups.specs.Objects.{is_object_at}
+use Rattle.object_groups.specs.claims.Objects.{is_object_at}
 use Rattle.object_reader.specs.declared.block.Block.{Block}
 use Rattle.object_reader.specs.declared.block.BlockKind.TheVariants.{Host, Service}
-use Rattle.object_services.specs.Hosts.{AreHosts}
-use Rattle.object_services.specs.Limits.{AreHostLists, AreWithinLimit, GiveObjects, objects_below, PassesLimit, PassesNowhere}
+use Rattle.object_services.specs.claims.Hosts.{AreHosts}
+use Rattle.object_services.specs.claims.Limits.{AreHostLists, AreWithinLimit, GiveObjects, objects_below, PassesLimit}
+use Rattle.object_services.specs.Limits.{PassesNowhere}
 use Rattle.object_services.proofs.LimitLemmas.{below-more, counted-more}
 use Rattle.object_services.specs.HostLaws.{hosts-one}
 

@@ -6,14 +6,15 @@ use Rattle.std.proofs.lemmas.List.{append-nil, length-append}
 use Rattle.lemmas.proofs.Lists.{filter_range_more}
 use Rattle.lemmas.proofs.Zips.{zip-more}
 use Rattle.lemmas.proofs.Numbers.{sum-more}
-use Rattle.due_model.specs.Limits.{max_objects}
-use Rattle.object_groups.specs.Objects.{is_object, is_object_at, objects_in}
+use Rattle.due_model.specs.claims.Limits.{max_objects}
+use Rattle.object_groups.specs.claims.Objects.{is_object, is_object_at, objects_in}
 use Rattle.object_groups.specs.ObjectLaws.{object-at}
 use Rattle.object_reader.specs.declared.block.Block.{Block}
 use Rattle.object_reader.specs.declared.block.BlockKind.{BlockKind}
 use Rattle.object_reader.specs.declared.block.BlockKind.TheVariants.{Host, Service}
-use Rattle.object_services.specs.Hosts.{AreHosts}
-use Rattle.object_services.specs.Limits.{AreHostLists, AreWithinLimit, GiveObjects, IsFirstOver, IsSoFar, Noted, objects_below}
+use Rattle.object_services.specs.claims.Hosts.{AreHosts}
+use Rattle.object_services.specs.claims.Limits.{AreHostLists, AreWithinLimit, GiveObjects, objects_below}
+use Rattle.object_services.specs.Limits.{IsFirstOver, IsSoFar, Noted}
 
 pub below-more : (blocks : List Block) (kind : BlockKind) (place : ℕ) (b : Bool) → is_object_at blocks kind place ≡ b
     → objects_below blocks kind (place + 1) ≡ objects_below blocks kind place ++ cond b (place ∷ []) []

@@ -11,7 +11,8 @@ use Rattle.std.specs.HashMap.Eq.{lookup_congr}
 use Rattle.std.proofs.lemmas.List.{append-nil, map-append, take_more}
 use Rattle.lemmas.proofs.Numbers.{flat_range_more}
 use Rattle.lemmas.proofs.Searches.{or-none, position-snoc}
-use Rattle.object_services.specs.Numbers.{HasPlaces, is_pair, Key, key_eq, Pair, pairs_in, service_number}
+use Rattle.object_services.specs.claims.Numbers.{is_pair, Pair, service_number}
+use Rattle.object_services.specs.Numbers.{HasPlaces, Key, key_eq, pairs_in}
 
 key_alike : (x y z : Key) → key_eq x y ≡ true → key_eq x z ≡ key_eq y z
 key_alike x y z is =

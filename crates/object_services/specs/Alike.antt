@@ -2,12 +2,12 @@
 use Rattle.std.specs.Prelude.{◌≡◌, ℕ, ◌<◌, ◌==◌, ◌↔◌, Bool, true, false, List, [], length, filter, Contains, Some, nat_eq, slice_index_or}
 use Rattle.std.specs.List.{list_any, range_with_len}
 use Rattle.std.specs.Option.{option_map_or}
-use Rattle.object_groups.specs.Names.{number_of}
-use Rattle.object_groups.specs.Objects.{names_in}
+use Rattle.object_groups.specs.claims.Names.{number_of}
+use Rattle.object_groups.specs.claims.Objects.{names_in}
 use Rattle.object_reader.specs.declared.block.Block.{Block}
 use Rattle.object_reader.specs.declared.block.BlockKind.TheVariants.{Service}
-use Rattle.object_services.specs.Doubled.{description_of, IsDoubled, place_of, ShareHost}
-use Rattle.object_services.specs.Hosts.{HasHost}
+use Rattle.object_services.specs.claims.Doubled.{description_of, IsDoubled, place_of, ShareHost}
+use Rattle.object_services.specs.claims.Hosts.{HasHost}
 
 -- whether the name of that number is the one that has its first place at `first`
 abbrev pub is_alike : (names : List (List ℕ)) → (first number : ℕ) → Bool

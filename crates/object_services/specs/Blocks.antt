@@ -3,7 +3,8 @@ use Rattle.std.specs.Prelude.{◌≡◌, List}
 use Rattle.object_reader.specs.declared.block.Block.{Block}
 use Rattle.object_reader.specs.declared.block.BlockKind.TheVariants.{Service}
 use Rattle.object_groups.specs.Objects.{ObjectsOf}
-use Rattle.object_listing.specs.Listing.{host_directives, ListingOf}
+use Rattle.object_listing.specs.claims.Listing.{host_directives}
+use Rattle.object_listing.specs.Listing.{ListingOf}
 
 -- the service blocks, and the hosts that all blocks list
 pub record AreServiceBlocks (blocks : List Block) (objects : ObjectsOf)

@@ -6,9 +6,9 @@ use Rattle.std.proofs.lemmas.List.{length-map}
 use Rattle.lemmas.proofs.Numbers.{all-count}
 use Rattle.object_listing.specs.ListingLaws.{those-one}
 use Rattle.object_reader.specs.declared.block.Block.{Block}
-use Rattle.object_services.specs.Hosts.{HasHost}
-use Rattle.object_services.specs.Limits.{AreHostLists}
-use Rattle.object_services.specs.Numbers.{Pair, pairs_of}
+use Rattle.object_services.specs.claims.Hosts.{HasHost}
+use Rattle.object_services.specs.claims.Limits.{AreHostLists}
+use Rattle.object_services.specs.claims.Numbers.{Pair, pairs_of}
 
 pub hosts-one : (blocks : List Block) (places : List ℕ) (one other : List (List ℕ)) → AreHostLists blocks places one → AreHostLists blocks places other → one ≡ other
 hosts-one blocks [] [] [] a b = refl

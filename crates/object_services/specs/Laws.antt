@@ -2,7 +2,8 @@
 use Rattle.std.specs.Prelude.{◌≡◌, ℕ, ◌+◌, List, length, sum_by}
 use Rattle.object_reader.specs.declared.block.Block.{Block}
 use Rattle.object_reader.specs.declared.block.BlockKind.TheVariants.{Host, Service}
-use Rattle.object_services.specs.Limits.{AreHostLists, AreWithinLimit, GiveObjects, objects_below, PassesLimit, PassesNowhere}
+use Rattle.object_services.specs.claims.Limits.{AreHostLists, AreWithinLimit, GiveObjects, objects_below, PassesLimit}
+use Rattle.object_services.specs.Limits.{PassesNowhere}
 
 -- The blocks pass the limit at one place at most.
 abbrev pub OnePlacePasses : Type 0

@@ -1,8 +1,7 @@
-pub mod Hosts
+pub mod claims
 pub mod Blocks
 pub mod Limits
 pub mod Laws
-pub mod Doubled
 pub mod Alike
 pub mod Numbers
 pub mod HostLaws

@@ -2,9 +2,9 @@
 
 ghost use Rattle.std.specs.Prelude.{◌≡◌, ◌<◌, length, IfOk, slice_index_or};
 ghost use Rattle.object_groups.specs.declared.groups.GroupKind.TheVariants.{HostGroups};
-ghost use Rattle.object_groups.specs.Objects.{objects_in};
+ghost use Rattle.object_groups.specs.claims.Objects.{objects_in};
 ghost use Rattle.object_reader.specs.declared.block.BlockKind.TheVariants.{Service};
-ghost use Rattle.object_services.specs.Hosts.{AreHosts};
+ghost use Rattle.object_services.specs.claims.Hosts.{AreHosts};
 
 use object_groups::groups::{GroupKind, Groups};
 use object_groups::objects::Objects;

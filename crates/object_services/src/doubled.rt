@@ -8,11 +8,11 @@ ghost use Rattle.std.specs.List.Sorted.{IsStrictlyIncreasing};
 ghost use Rattle.std.specs.Option.{option_to_list};
 ghost use Rattle.graph.specs.Edges.{ends_of, IsWithin};
 ghost use Rattle.object_groups.specs.declared.groups.GroupKind.TheVariants.{HostGroups};
-ghost use Rattle.object_groups.specs.Objects.{names_in, objects_in};
-ghost use Rattle.object_groups.specs.First.{IsFirst};
+ghost use Rattle.object_groups.specs.claims.Objects.{names_in, objects_in};
+ghost use Rattle.object_groups.specs.claims.First.{IsFirst};
 ghost use Rattle.object_reader.specs.declared.block.BlockKind.TheVariants.{Host, Service};
 ghost use Rattle.object_services.specs.Alike.{alike, AreAlike, is_among, SharesAmong};
-ghost use Rattle.object_services.specs.Doubled.{IsDoubled};
+ghost use Rattle.object_services.specs.claims.Doubled.{IsDoubled};
 
 use crate::blocks::ServiceBlocks;
 use graph::edges::{Edge, Graph};

@@ -2,8 +2,9 @@
 
 ghost use Rattle.std.specs.Prelude.{◌≡◌, ◌<◌, ◌++◌, ◌∷◌, List, [], length, map};
 ghost use Rattle.std.specs.Prelude.{IfOk, IfSome, OnOk};
-ghost use Rattle.object_services.specs.Numbers.{HasPlaces, Pair, pairs_in, pairs_of};
-ghost use Rattle.object_services.specs.Numbers.{service_number};
+ghost use Rattle.object_services.specs.claims.Numbers.{Pair, pairs_of};
+ghost use Rattle.object_services.specs.Numbers.{HasPlaces, pairs_in};
+ghost use Rattle.object_services.specs.claims.Numbers.{service_number};
 
 use crate::services::ServiceHosts;
 use indexmap::IndexMap;
@@ -78,7 +79,8 @@ pub struct ServiceNumbers<'a> {
 
 impl<'a> Model for ServiceNumbers<'a> {
     ghost use Rattle.std.specs.Prelude.{List};
-    ghost use Rattle.object_services.specs.Numbers.{HasPlaces, Pair, pairs_in};
+    ghost use Rattle.object_services.specs.claims.Numbers.{Pair};
+    ghost use Rattle.object_services.specs.Numbers.{HasPlaces, pairs_in};
 
     ghost Value = { List Pair };
 

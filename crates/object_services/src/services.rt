@@ -2,12 +2,13 @@
 
 ghost use Rattle.std.specs.Prelude.{◌≡◌, ◌+◌, ◌≤◌, [], length, map, slice_index_or, sum_by};
 ghost use Rattle.std.specs.Prelude.{IfErr, IfOk, OnOk, if◌then◌else◌};
-ghost use Rattle.due_model.specs.Limits.{max_objects};
+ghost use Rattle.due_model.specs.claims.Limits.{max_objects};
 ghost use Rattle.object_groups.specs.declared.groups.GroupKind.TheVariants.{HostGroups};
-ghost use Rattle.object_groups.specs.Objects.{objects_in};
+ghost use Rattle.object_groups.specs.claims.Objects.{objects_in};
 ghost use Rattle.object_reader.specs.declared.block.BlockKind.TheVariants.{Host, Service};
 ghost use Rattle.object_services.specs.declared.services.LimitFault.TheVariants.{NoMemory};
-ghost use Rattle.object_services.specs.Limits.{AreHostLists, AreWithinLimit, IsRefusal, Noted};
+ghost use Rattle.object_services.specs.claims.Limits.{AreHostLists, AreWithinLimit};
+ghost use Rattle.object_services.specs.Limits.{IsRefusal, Noted};
 ghost use Rattle.object_services.specs.Limits.{PassesNowhere};
 
 use crate::blocks::ServiceBlocks;

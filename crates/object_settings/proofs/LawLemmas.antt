@@ -4,21 +4,21 @@ use Rattle.std.specs.Prelude.{codes, is_none, map, not, ◌&&◌, ◌==◌, ◌�
 use Rattle.std.specs.Option.{option_and_then, option_map, option_map_or}
 use Rattle.std.proofs.lemmas.Bool.{false≢true}
 use Rattle.lemmas.proofs.Elements.{Contains-none}
-use Rattle.due_model.specs.Options.{every_letter}
+use Rattle.due_model.specs.claims.Options.{every_letter}
 use Rattle.due_model.specs.declared.config.PeriodId.{PeriodId}
-use Rattle.object_groups.specs.Names.{Lists}
-use Rattle.object_groups.specs.Objects.{list_at, names_in}
-use Rattle.object_inheritance.specs.Inherited.{name_of, own, own_entries, value}
+use Rattle.object_groups.specs.claims.Names.{Lists}
+use Rattle.object_groups.specs.claims.Objects.{list_at, names_in}
+use Rattle.object_inheritance.specs.claims.Inherited.{name_of, own, own_entries, value}
 use Rattle.object_inheritance.specs.Laws.{PlainBlockHasItsOwn, PlainListHasItsOwn}
-use Rattle.object_listing.specs.Listing.{AreThose, contact_directives, gives_neither, IsListed}
+use Rattle.object_listing.specs.claims.Listing.{AreThose, contact_directives, gives_neither, IsListed}
 use Rattle.object_reader.specs.declared.block.Block.{Block}
 use Rattle.object_reader.specs.declared.block.BlockKind.TheVariants.{Contact, ContactGroup, TimePeriod}
-use Rattle.object_listing.specs.Readings.{is_on, letters_at, own_number, own_period, period_named}
+use Rattle.object_listing.specs.claims.Readings.{is_on, letters_at, own_number, own_period, period_named}
 use Rattle.object_listing.specs.Plain.{plain_letters, plain_list, plain_number, plain_period}
 use Rattle.object_settings.specs.Laws.{IsPlain, PlainHostHasItsOwn, PlainServiceHasItsOwn}
-use Rattle.object_settings.specs.Settings.{host_place}
-use Rattle.object_values.specs.Options.{options_in}
-use Rattle.object_values.specs.Values.{number_in}
+use Rattle.object_settings.specs.claims.Settings.{host_place}
+use Rattle.object_values.specs.claims.Options.{options_in}
+use Rattle.object_values.specs.claims.Values.{number_in}
 use Rattle.object_values.specs.declared.options.OptionKind.{OptionKind}
 use Rattle.object_values.specs.declared.options.OptionKind.TheVariants as lists
 

@@ -5,18 +5,19 @@ use Rattle.std.specs.List.{AllZip, flat_map, range_with_len, sum_by}
 use Rattle.std.proofs.lemmas.List.{append-nil, get_or_default, get_or-map, take_all, take_more}
 use Rattle.lemmas.proofs.Numbers.{flat_range_more}
 use Rattle.lemmas.proofs.Zips.{zip-append, zip-map}
-use Rattle.due_model.specs.Limits.{max_objects}
-use Rattle.due_model.specs.Objects.{object_id}
+use Rattle.due_model.specs.claims.Limits.{max_objects}
+use Rattle.due_model.specs.claims.Objects.{object_id}
 use Rattle.due_model.specs.declared.config.Object.{Object}
-use Rattle.object_groups.specs.Objects.{name_at, names_in, objects_in}
+use Rattle.object_groups.specs.claims.Objects.{name_at, names_in, objects_in}
 use Rattle.object_listing.specs.Contacts.{IsAsked}
 use Rattle.object_reader.specs.declared.block.Block.{Block}
 use Rattle.object_reader.specs.declared.block.BlockKind.{BlockKind}
 use Rattle.object_reader.specs.declared.block.BlockKind.TheVariants.{Host, Service}
-use Rattle.object_services.specs.Hosts.{AreHosts}
-use Rattle.object_services.specs.Limits.{AreHostLists}
+use Rattle.object_services.specs.claims.Hosts.{AreHosts}
+use Rattle.object_services.specs.claims.Limits.{AreHostLists}
 use Rattle.object_settings.specs.Own.{AddsObjects, AddsServices, IsHostTaken, IsOwn, IsOwnOfHost, IsServiceTaken, IsTaken}
-use Rattle.object_settings.specs.Settings.{AreObjectsOf, AskForHosts, AskForServices, block_origins, host_origins, IsObjectOf, Origin, service_origins}
+use Rattle.object_settings.specs.claims.Settings.{AreObjectsOf, block_origins, host_origins, IsObjectOf, Origin, service_origins}
+use Rattle.object_settings.specs.Settings.{AskForHosts, AskForServices}
 use Rattle.object_settings.specs.declared.own.Own.{Own}
 use Rattle.object_settings.proofs.OwnLemmas.{host-is, service-is, zip-through}
 use Rattle.object_settings.specs.ObjectLaws.{object-count}

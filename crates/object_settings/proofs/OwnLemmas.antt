@@ -7,16 +7,16 @@ use Rattle.std.proofs.lemmas.Slice.Zip.{AllZip-long}
 use Rattle.due_model.specs.declared.config.ContactId.{ContactId}
 use Rattle.due_model.specs.declared.config.Object.{Object}
 use Rattle.due_model.specs.declared.config.PeriodId.{PeriodId}
-use Rattle.object_groups.specs.Objects.{name_at, names_in, objects_in}
+use Rattle.object_groups.specs.claims.Objects.{name_at, names_in, objects_in}
 use Rattle.object_groups.specs.ObjectLaws.{names-long}
 use Rattle.object_listing.specs.Laws.{ListedAreObjects}
-use Rattle.object_listing.specs.Listing.{AreThose, contact_directives, gives_neither, host_directives, IsListed}
+use Rattle.object_listing.specs.claims.Listing.{AreThose, contact_directives, gives_neither, host_directives, IsListed}
 use Rattle.object_reader.specs.declared.block.Block.{Block}
 use Rattle.object_reader.specs.declared.block.BlockKind.TheVariants.{Host, Service, TimePeriod}
-use Rattle.object_listing.specs.Readings.{own_number, own_period}
-use Rattle.object_services.specs.Hosts.{AreHosts}
+use Rattle.object_listing.specs.claims.Readings.{own_number, own_period}
+use Rattle.object_services.specs.claims.Hosts.{AreHosts}
 use Rattle.object_settings.specs.Own.{contacts_of, IsOwn, IsHostTaken, IsOwnOfHost, IsServiceTaken, IsTaken}
-use Rattle.object_settings.specs.Settings.{contacts_from, HasSettings, host_place, IsHostOf, IsServiceOf}
+use Rattle.object_settings.specs.claims.Settings.{contacts_from, HasSettings, host_place, IsHostOf, IsServiceOf}
 use Rattle.object_settings.specs.declared.own.Own.{Own}
 use Rattle.object_values.specs.declared.options.OptionKind.{OptionKind}
 use Rattle.object_values.specs.declared.options.OptionKind.TheVariants as lists

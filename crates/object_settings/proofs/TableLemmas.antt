@@ -2,15 +2,15 @@
 use Rattle.std.proofs.Common.{◌≡◌, ℕ, ◌<◌, Bool, true, false, cond, eqb, eqb-true, List, length, set, get_or, Option, None, Some, refl, sym, ap, subst, ◌∙◌}
 use Rattle.std.specs.Prelude.{IfSome, slice_get, unwrap_or}
 use Rattle.std.specs.Option.{option_and_then}
-use Rattle.due_model.specs.Options.{every_letter}
+use Rattle.due_model.specs.claims.Options.{every_letter}
 use Rattle.due_model.specs.declared.options.OptionLetters.{OptionLetters}
 use Rattle.lemmas.proofs.Writes.{at_set}
 use Rattle.object_inheritance.specs.Columns.{Column}
-use Rattle.object_inheritance.specs.Inherited.{given}
+use Rattle.object_inheritance.specs.claims.Inherited.{given}
 use Rattle.object_reader.specs.declared.block.Block.{Block}
-use Rattle.object_listing.specs.Readings.{letters_at}
+use Rattle.object_listing.specs.claims.Readings.{letters_at}
 use Rattle.object_settings.specs.Own.{AreRead}
-use Rattle.object_values.specs.Options.{options_in}
+use Rattle.object_values.specs.claims.Options.{options_in}
 use Rattle.object_values.specs.declared.options.OptionKind.{OptionKind}
 
 -- a value that is read of one column

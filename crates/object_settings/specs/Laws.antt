@@ -1,17 +1,17 @@
 -- Laws of the objects of blocks, of any blocks.
 use Rattle.std.specs.Prelude.{◌≡◌, ℕ, true, not, ◌==◌, List, [], map, codes, unwrap_or, None, Some}
 use Rattle.std.specs.Option.{option_map_or}
-use Rattle.due_model.specs.Objects.{object_id}
-use Rattle.due_model.specs.Options.{every_letter}
+use Rattle.due_model.specs.claims.Objects.{object_id}
+use Rattle.due_model.specs.claims.Options.{every_letter}
 use Rattle.due_model.specs.declared.config.Object.{Object}
-use Rattle.object_groups.specs.Names.{Lists}
-use Rattle.object_groups.specs.Objects.{names_in}
-use Rattle.object_inheritance.specs.Inherited.{own}
-use Rattle.object_listing.specs.Listing.{AreThose}
+use Rattle.object_groups.specs.claims.Names.{Lists}
+use Rattle.object_groups.specs.claims.Objects.{names_in}
+use Rattle.object_inheritance.specs.claims.Inherited.{own}
+use Rattle.object_listing.specs.claims.Listing.{AreThose}
 use Rattle.object_reader.specs.declared.block.Block.{Block}
 use Rattle.object_reader.specs.declared.block.BlockKind.TheVariants.{Contact}
 use Rattle.object_listing.specs.Plain.{plain_letters, plain_list, plain_number, plain_period}
-use Rattle.object_settings.specs.Settings.{host_place, IsHostOf, IsServiceOf}
+use Rattle.object_settings.specs.claims.Settings.{host_place, IsHostOf, IsServiceOf}
 use Rattle.object_values.specs.declared.options.OptionKind.TheVariants as lists
 
 -- The block at the place is plain: it uses no templates and gives no contact groups.

@@ -1,3 +1,4 @@
+pub mod claims
 pub mod Settings
 pub mod Own
 pub mod Laws

@@ -6,10 +6,10 @@ use Rattle.std.proofs.lemmas.List.{length-append, length-map}
 use Rattle.std.proofs.lemmas.Slice.Zip.{AllZip-long}
 use Rattle.lemmas.proofs.Numbers.{all-count}
 use Rattle.due_model.specs.declared.config.Object.{Object}
-use Rattle.object_groups.specs.Objects.{objects_in}
+use Rattle.object_groups.specs.claims.Objects.{objects_in}
 use Rattle.object_reader.specs.declared.block.Block.{Block}
 use Rattle.object_reader.specs.declared.block.BlockKind.TheVariants.{Host, Service}
-use Rattle.object_settings.specs.Settings.{AreObjectsOf, block_origins, host_origins, IsObjectOf, Origin, service_origins}
+use Rattle.object_settings.specs.claims.Settings.{AreObjectsOf, block_origins, host_origins, IsObjectOf, Origin, service_origins}
 
 pub object-count : (blocks : List Block) (hosts : List (List ℕ)) (objects : List Object) → AreObjectsOf blocks hosts objects
     → length objects ≡ length (objects_in blocks Host) + sum_by length hosts

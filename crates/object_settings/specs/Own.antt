@@ -1,20 +1,20 @@
 -- How the objects are made: what each block gives is found once, and then taken for each of its objects.
 use Rattle.std.specs.Prelude.{◌≡◌, ℕ, true, false, List, ◌++◌, map, codes, unwrap_or, Option, None, Some, IfSome, slice_get, slice_index_or, if◌then◌else◌}
 use Rattle.std.specs.List.{AllZip}
-use Rattle.due_model.specs.Objects.{object_id}
+use Rattle.due_model.specs.claims.Objects.{object_id}
 use Rattle.due_model.specs.declared.config.ContactId.{ContactId}
 use Rattle.due_model.specs.declared.config.Object.{Object}
 use Rattle.due_model.specs.declared.options.OptionLetters.{OptionLetters}
-use Rattle.object_groups.specs.Objects.{name_at, names_in}
+use Rattle.object_groups.specs.claims.Objects.{name_at, names_in}
 use Rattle.object_inheritance.specs.Columns.{Column}
-use Rattle.object_listing.specs.Listing.{AreThose, contact_directives, gives_neither, IsListed}
+use Rattle.object_listing.specs.claims.Listing.{AreThose, contact_directives, gives_neither, IsListed}
 use Rattle.object_reader.specs.declared.block.Block.{Block}
 use Rattle.object_reader.specs.declared.block.BlockKind.TheVariants.{Host, TimePeriod}
-use Rattle.object_listing.specs.Readings.{is_on, letters_at, number_at, own_number, own_period}
+use Rattle.object_listing.specs.claims.Readings.{is_on, letters_at, number_at, own_number, own_period}
 use Rattle.object_settings.specs.declared.own.Own.{Own}
 use Rattle.object_settings.specs.declared.tables.Filters.{Filters}
 use Rattle.object_settings.specs.declared.tables.Times.{Times}
-use Rattle.object_settings.specs.Settings.{IsObjectOf, Origin}
+use Rattle.object_settings.specs.claims.Settings.{IsObjectOf, Origin}
 use Rattle.object_values.specs.declared.options.OptionKind.{OptionKind}
 use Rattle.object_values.specs.declared.options.OptionKind.TheVariants as lists
 

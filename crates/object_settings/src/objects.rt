@@ -4,19 +4,20 @@ ghost use Rattle.std.specs.Prelude.{◌≡◌, ◌+◌, ◌<◌, ◌≤◌, None
 ghost use Rattle.std.specs.Prelude.{slice_index_or};
 ghost use Rattle.std.specs.Prelude.{sum_by, All, IfOk, OnOk, Some};
 ghost use Rattle.std.specs.List.{AllZip};
-ghost use Rattle.due_model.specs.Limits.{max_objects, max_periods};
-ghost use Rattle.due_model.specs.Objects.{object_id};
-ghost use Rattle.object_groups.specs.Objects.{name_at, names_in, objects_in};
+ghost use Rattle.due_model.specs.claims.Limits.{max_objects, max_periods};
+ghost use Rattle.due_model.specs.claims.Objects.{object_id};
+ghost use Rattle.object_groups.specs.claims.Objects.{name_at, names_in, objects_in};
 ghost use Rattle.object_listing.specs.Contacts.{IsAsked};
 ghost use Rattle.object_reader.specs.declared.block.BlockKind.TheVariants.{Host, Service};
 ghost use Rattle.object_reader.specs.declared.block.BlockKind.TheVariants.{TimePeriod};
 ghost use Rattle.object_listing.specs.Periods.{ArePeriods};
-ghost use Rattle.object_services.specs.Hosts.{AreHosts};
-ghost use Rattle.object_services.specs.Limits.{AreHostLists};
+ghost use Rattle.object_services.specs.claims.Hosts.{AreHosts};
+ghost use Rattle.object_services.specs.claims.Limits.{AreHostLists};
 ghost use Rattle.object_settings.specs.Own.{AddsObjects, AddsServices, AreRead, IsHostTaken};
 ghost use Rattle.object_settings.specs.Own.{IsOwnOfHost, options_of};
-ghost use Rattle.object_settings.specs.Settings.{AreObjectsOf, AskForHosts, AskForServices};
-ghost use Rattle.object_settings.specs.Settings.{service_origins};
+ghost use Rattle.object_settings.specs.claims.Settings.{AreObjectsOf};
+ghost use Rattle.object_settings.specs.Settings.{AskForHosts, AskForServices};
+ghost use Rattle.object_settings.specs.claims.Settings.{service_origins};
 
 use crate::own::{Own, object_of};
 use crate::tables::Tables;

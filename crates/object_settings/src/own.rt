@@ -1,7 +1,7 @@
 //! What one block gives for its objects, and the objects made of it.
 
 ghost use Rattle.std.specs.Prelude.{◌≡◌, ◌<◌, map, unwrap_or, All, IfOk, None, Some};
-ghost use Rattle.due_model.specs.Objects.{object_id};
+ghost use Rattle.due_model.specs.claims.Objects.{object_id};
 ghost use Rattle.object_settings.specs.Own.{contacts_of, IsTaken};
 
 use due_model::config::{ContactId, ContactList, Object, ObjectId, PeriodId};

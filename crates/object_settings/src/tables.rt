@@ -3,7 +3,7 @@
 ghost use Rattle.std.specs.Prelude.{◌≡◌, IfOk};
 ghost use Rattle.object_listing.specs.Contacts.{IsAsked};
 ghost use Rattle.object_listing.specs.Periods.{ArePeriods};
-ghost use Rattle.object_listing.specs.Readings.{letters_at};
+ghost use Rattle.object_listing.specs.claims.Readings.{letters_at};
 ghost use Rattle.object_settings.specs.Own.{AreFilters, AreRead, AreTimes, IsOwn, options_of};
 
 use crate::own::Own;

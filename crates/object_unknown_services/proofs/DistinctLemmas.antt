@@ -5,15 +5,16 @@ use Rattle.std.specs.Map.{lookup}
 use Rattle.std.proofs.lemmas.Bool.{and_parts, cases_lt}
 use Rattle.std.proofs.lemmas.List.Elements.{All-from_get_or, Contains-append_cases, Contains-append_left, Contains-append_right, Contains-get_or}
 use Rattle.lemmas.proofs.Elements.{Contains-cases, Contains-here, Contains-none}
-use Rattle.object_groups.specs.Objects.{names_in}
+use Rattle.object_groups.specs.claims.Objects.{names_in}
 use Rattle.object_reached.specs.declared.roles.Role.{Role}
 use Rattle.object_reached.specs.Alike.{HaveLists, ListPlaces, places_eq}
-use Rattle.object_reached.specs.Roles.{directives_of}
+use Rattle.object_reached.specs.claims.Roles.{directives_of}
 use Rattle.object_reader.specs.declared.block.Block.{Block}
 use Rattle.object_reader.specs.declared.block.BlockKind.TheVariants.{Service}
 use Rattle.object_unknown_services.specs.Distinct.{AreDistinct, AreNamers, AreSame, entries_at, IsDistinct, IsNamer}
 use Rattle.object_unknown_services.specs.Keys.{AreByKey, AreListsOf, HasKey, NamesFirst}
-use Rattle.object_unknown_services.specs.Named.{descriptions_at, descriptions_in}
+use Rattle.object_unknown_services.specs.claims.Named.{descriptions_in}
+use Rattle.object_unknown_services.specs.Named.{descriptions_at}
 use Rattle.object_unknown_services.proofs.NamedLemmas.{described, named-low, named-object}
 
 -- ---- one block more

@@ -13,12 +13,12 @@ use Rattle.std.proofs.lemmas.Slice.Eq.{bytes_eq-Decides}
 use Rattle.lemmas.proofs.Elements.{Contains-cases, Contains-here, Contains-none}
 use Rattle.lemmas.proofs.Searches.{place-le, position-within, texts-more}
 use Rattle.lemmas.proofs.Writes.{at_longer}
-use Rattle.object_groups.specs.Names.{number_of}
-use Rattle.object_groups.specs.Objects.{names_in}
+use Rattle.object_groups.specs.claims.Names.{number_of}
+use Rattle.object_groups.specs.claims.Objects.{names_in}
 use Rattle.object_reached.specs.declared.roles.Role.{Role}
 use Rattle.object_reader.specs.declared.block.Block.{Block}
 use Rattle.object_reader.specs.declared.block.BlockKind.TheVariants.{Service}
-use Rattle.object_services.specs.Doubled.{description_of, place_of}
+use Rattle.object_services.specs.claims.Doubled.{description_of, place_of}
 use Rattle.object_unknown_services.specs.Keys.{Adds, AreByKey, AreListsOf, GivesBelow, HasKey, key_of, NamesFirst, NamesKey}
 use Rattle.object_unknown_services.specs.Named.{descriptions_at}
 use Rattle.object_values.specs.Values.{texts}

@@ -3,14 +3,15 @@ use Rattle.std.proofs.Common.{◌≡◌, ℕ, Bool, true, false, cond, List, [],
 use Rattle.std.specs.Prelude.{Contains}
 use Rattle.lemmas.proofs.Elements.{Contains-none}
 use Rattle.lemmas.proofs.Lists.{at-within}
-use Rattle.object_groups.specs.Names.{is_all}
-use Rattle.object_groups.specs.Objects.{is_object, is_object_at, list_at}
-use Rattle.object_listing.specs.Listing.{IsListed}
+use Rattle.object_groups.specs.claims.Names.{is_all}
+use Rattle.object_groups.specs.claims.Objects.{is_object, is_object_at, list_at}
+use Rattle.object_listing.specs.claims.Listing.{IsListed}
 use Rattle.object_reached.specs.declared.roles.Role.{Role}
-use Rattle.object_reached.specs.Listed.{of_hosts}
-use Rattle.object_reached.specs.Roles.{directives_of, service_kind}
+use Rattle.object_reached.specs.claims.Listed.{of_hosts}
+use Rattle.object_reached.specs.claims.Roles.{directives_of, service_kind}
 use Rattle.object_reader.specs.declared.block.Block.{Block}
-use Rattle.object_unknown_services.specs.Named.{descriptions_at, descriptions_in, NamesService}
+use Rattle.object_unknown_services.specs.claims.Named.{descriptions_in, NamesService}
+use Rattle.object_unknown_services.specs.Named.{descriptions_at}
 
 -- ---- the entries of a list
 

@@ -7,12 +7,12 @@ use Rattle.std.proofs.lemmas.List.{take_more}
 use Rattle.std.proofs.lemmas.List.Folds.{Any-from_list_any, list_any-from_Any}
 use Rattle.std.proofs.lemmas.List.Elements.{Contains-append_cases, Contains-append_left, Contains-append_right}
 use Rattle.lemmas.proofs.Elements.{Contains-cases, Contains-here, Contains-none}
-use Rattle.object_listing.specs.Listing.{AreThose, IsListed}
+use Rattle.object_listing.specs.claims.Listing.{AreThose, IsListed}
 use Rattle.object_reached.specs.declared.roles.Role.{Role}
-use Rattle.object_reached.specs.Listed.{of_hosts}
-use Rattle.object_reached.specs.Roles.{directives_of}
+use Rattle.object_reached.specs.claims.Listed.{of_hosts}
+use Rattle.object_reached.specs.claims.Roles.{directives_of}
 use Rattle.object_reader.specs.declared.block.Block.{Block}
-use Rattle.object_services.specs.Hosts.{AreHosts, HasHost}
+use Rattle.object_services.specs.claims.Hosts.{AreHosts, HasHost}
 use Rattle.object_unknown_services.specs.Stamps.{is_stamped, IsHostOf, Stamped}
 use Rattle.object_unknown_services.specs.Unknown.{ListsUnstamped}
 

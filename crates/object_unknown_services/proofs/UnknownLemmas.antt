@@ -4,25 +4,27 @@ use Rattle.std.specs.Prelude.{Contains, nat_le, nat_lt}
 use Rattle.std.proofs.lemmas.Bool.{cases_lt, false≢true}
 use Rattle.std.proofs.lemmas.List.{length-replicate}
 use Rattle.lemmas.proofs.Elements.{Contains-none}
-use Rattle.object_groups.specs.First.{IsFirst, lower}
+use Rattle.object_groups.specs.claims.First.{IsFirst}
+use Rattle.object_groups.specs.First.{lower}
 use Rattle.object_groups.specs.FirstLaws.{first-either, first-lower, first-same}
-use Rattle.object_groups.specs.Objects.{names_in}
+use Rattle.object_groups.specs.claims.Objects.{names_in}
 use Rattle.object_listing.specs.Laws.{ListedAreObjects}
-use Rattle.object_listing.specs.Listing.{host_directives}
-use Rattle.object_pairs.specs.Members.{HasService}
+use Rattle.object_listing.specs.claims.Listing.{host_directives}
+use Rattle.object_pairs.specs.claims.Members.{HasService}
 use Rattle.object_reached.specs.declared.roles.Role.{Role}
 use Rattle.object_reached.specs.declared.roles.Role.TheVariants.{Escalated, Master, Dependent}
 use Rattle.object_reader.specs.declared.block.Block.{Block}
 use Rattle.object_reader.specs.declared.block.BlockKind.TheVariants.{Host, Service}
-use Rattle.object_services.specs.Doubled.{description_of, place_of}
-use Rattle.object_services.specs.Hosts.{HasHost}
+use Rattle.object_services.specs.claims.Doubled.{description_of, place_of}
+use Rattle.object_services.specs.claims.Hosts.{HasHost}
 use Rattle.object_reached.specs.AlikeLaws.{listed-alike}
-use Rattle.object_reached.specs.Roles.{directives_of}
+use Rattle.object_reached.specs.claims.Roles.{directives_of}
 use Rattle.object_unknown_services.specs.declared.keys.Namers.{Namers}
 use Rattle.object_unknown_services.specs.Distinct.{AreNamers, AreSame}
 use Rattle.object_unknown_services.specs.Keys.{AreByKey, GivesKey, key_of, NamesKey}
 use Rattle.object_unknown_services.specs.Stamps.{AreBelow, is_stamped, IsHostOf, Stamped}
-use Rattle.object_unknown_services.specs.Unknown.{HasUnknownBelow, HasUnknownIn, HasUnknownOf, HasUnknownService, is_before, LacksAmong, LacksIn}
+use Rattle.object_unknown_services.specs.claims.Unknown.{HasUnknownService}
+use Rattle.object_unknown_services.specs.Unknown.{HasUnknownBelow, HasUnknownIn, HasUnknownOf, is_before, LacksAmong, LacksIn}
 use Rattle.object_unknown_services.proofs.KeyLemmas.{key-within, same-key}
 use Rattle.object_unknown_services.proofs.NamedLemmas.{named-from, named-to}
 use Rattle.object_unknown_services.proofs.StampLemmas.{more-cases, more-keeps, more-last}

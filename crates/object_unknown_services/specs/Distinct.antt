@@ -2,10 +2,10 @@
 use Rattle.std.specs.Prelude.{◌≡◌, ℕ, ◌+◌, ◌<◌, ◌≤◌, true, List, [], length, Contains, IfSome, slice_index_or}
 use Rattle.std.proofs.Common.{eqb}
 use Rattle.std.specs.Map.{lookup}
-use Rattle.object_groups.specs.Objects.{is_object_at, list_at, names_in}
+use Rattle.object_groups.specs.claims.Objects.{is_object_at, list_at, names_in}
 use Rattle.object_reached.specs.declared.roles.Role.{Role}
 use Rattle.object_reached.specs.Alike.{AreListsAlike, HaveLists, ListPlaces, places_eq}
-use Rattle.object_reached.specs.Roles.{directives_of, service_kind}
+use Rattle.object_reached.specs.claims.Roles.{directives_of, service_kind}
 use Rattle.object_reader.specs.declared.block.Block.{Block}
 use Rattle.object_reader.specs.declared.block.BlockKind.TheVariants.{Service}
 use Rattle.object_unknown_services.specs.declared.distinct.Met.{Met}

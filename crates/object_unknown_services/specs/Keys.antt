@@ -1,11 +1,11 @@
 -- Service blocks, and blocks that name services, by descriptions.
 use Rattle.std.specs.Prelude.{◌≡◌, ℕ, ◌+◌, ◌<◌, ◌↔◌, ◌⊎◌, List, [], length, unwrap_or, Contains, slice_index_or}
-use Rattle.object_groups.specs.Names.{number_of}
-use Rattle.object_groups.specs.Objects.{names_in}
+use Rattle.object_groups.specs.claims.Names.{number_of}
+use Rattle.object_groups.specs.claims.Objects.{names_in}
 use Rattle.object_reached.specs.declared.roles.Role.{Role}
 use Rattle.object_reader.specs.declared.block.Block.{Block}
 use Rattle.object_reader.specs.declared.block.BlockKind.TheVariants.{Service}
-use Rattle.object_services.specs.Doubled.{description_of, place_of}
+use Rattle.object_services.specs.claims.Doubled.{description_of, place_of}
 use Rattle.object_unknown_services.specs.Named.{descriptions_at}
 
 -- The key of a description among those of the service blocks: the number of the first that has it, and how many

@@ -1,3 +1,4 @@
+pub mod claims
 pub mod Keys
 pub mod Distinct
 pub mod Named

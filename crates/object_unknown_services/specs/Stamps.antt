@@ -1,7 +1,7 @@
 -- Stamps of hosts, by their numbers.
 use Rattle.std.specs.Prelude.{◌≡◌, ℕ, ◌<◌, ◌==◌, ◌⊎◌, Bool, List, length, Contains, slice_index_or}
 use Rattle.object_reader.specs.declared.block.Block.{Block}
-use Rattle.object_services.specs.Hosts.{HasHost}
+use Rattle.object_services.specs.claims.Hosts.{HasHost}
 
 -- whether a host has the stamp; 0 is none
 abbrev pub is_stamped : (stamps : List ℕ) → (stamp host : ℕ) → Bool

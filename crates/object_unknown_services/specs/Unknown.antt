@@ -1,23 +1,17 @@
 -- Services that escalations and dependencies name and that no block gives (chapters "Notification Escalations" and
 -- "Host and Service Dependencies").
 use Rattle.std.specs.Prelude.{◌≡◌, ℕ, ◌<◌, Bool, true, false, nat_lt, List, [], Option, Some, None, Contains, slice_index_or}
-use Rattle.object_groups.specs.Objects.{names_in}
-use Rattle.object_listing.specs.Listing.{IsListed}
-use Rattle.object_pairs.specs.Members.{HasService}
+use Rattle.object_groups.specs.claims.Objects.{names_in}
+use Rattle.object_listing.specs.claims.Listing.{IsListed}
+use Rattle.object_pairs.specs.claims.Members.{HasService}
 use Rattle.object_reached.specs.declared.roles.Role.{Role}
-use Rattle.object_reached.specs.Listed.{of_hosts}
-use Rattle.object_reached.specs.Roles.{directives_of}
+use Rattle.object_reached.specs.claims.Listed.{of_hosts}
+use Rattle.object_reached.specs.claims.Roles.{directives_of}
 use Rattle.object_reader.specs.declared.block.Block.{Block}
 use Rattle.object_reader.specs.declared.block.BlockKind.TheVariants.{Service}
 use Rattle.object_unknown_services.specs.Keys.{key_of}
-use Rattle.object_unknown_services.specs.Named.{NamesService}
+use Rattle.object_unknown_services.specs.claims.Named.{NamesService}
 use Rattle.object_unknown_services.specs.Stamps.{is_stamped}
-
--- The block at the place names, in one of its roles, a host with a description, and the host has no service of that
--- description.
-abbrev pub HasUnknownService : List Block → (place : ℕ) → Type 0
-HasUnknownService blocks place = (role : Role) × (host : ℕ) × (description : List ℕ)
-    × NamesService blocks role place host description × (HasService blocks host description → ⊥)
 
 -- ---- how it is found: role by role, and in each description by description
 

@@ -2,7 +2,7 @@
 
 ghost use Rattle.std.specs.Prelude.{◌≡◌, ◌+◌, ◌<◌, ◌≤◌};
 ghost use Rattle.std.specs.Prelude.{length, All, Contains, IfOk, OnOk};
-ghost use Rattle.object_groups.specs.Objects.{names_in};
+ghost use Rattle.object_groups.specs.claims.Objects.{names_in};
 ghost use Rattle.object_reader.specs.declared.block.BlockKind.TheVariants.{Service};
 ghost use Rattle.object_unknown_services.specs.Distinct.{AreDistinct, AreNamers};
 ghost use Rattle.object_unknown_services.specs.Keys.{Adds, AreByKey, AreListsOf, GivesKey};

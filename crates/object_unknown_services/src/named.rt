@@ -2,11 +2,12 @@
 
 ghost use Rattle.std.specs.Prelude.{◌≡◌, ◌<◌, length, IfOk};
 ghost use Rattle.object_groups.specs.declared.groups.GroupKind.TheVariants.{HostGroups};
-ghost use Rattle.object_groups.specs.Objects.{is_object_at, list_at};
-ghost use Rattle.object_listing.specs.Listing.{AreThose, IsListed};
-ghost use Rattle.object_reached.specs.Listed.{of_hosts};
-ghost use Rattle.object_reached.specs.Roles.{directives_of, service_kind};
-ghost use Rattle.object_unknown_services.specs.Named.{descriptions_at, descriptions_in};
+ghost use Rattle.object_groups.specs.claims.Objects.{is_object_at, list_at};
+ghost use Rattle.object_listing.specs.claims.Listing.{AreThose, IsListed};
+ghost use Rattle.object_reached.specs.claims.Listed.{of_hosts};
+ghost use Rattle.object_reached.specs.claims.Roles.{directives_of, service_kind};
+ghost use Rattle.object_unknown_services.specs.claims.Named.{descriptions_in};
+ghost use Rattle.object_unknown_services.specs.Named.{descriptions_at};
 ghost use Rattle.object_values.specs.Values.{texts};
 
 use object_groups::groups::Groups;

@@ -3,14 +3,15 @@
 ghost use Rattle.std.specs.Prelude.{◌≡◌, ◌↔◌, ◌+◌, ◌<◌, ◌^◌};
 ghost use Rattle.std.specs.Prelude.{length, true, All, IfOk};
 ghost use Rattle.object_groups.specs.declared.groups.GroupKind.TheVariants.{HostGroups};
-ghost use Rattle.object_groups.specs.First.{IsFirst};
-ghost use Rattle.object_groups.specs.Objects.{names_in};
+ghost use Rattle.object_groups.specs.claims.First.{IsFirst};
+ghost use Rattle.object_groups.specs.claims.Objects.{names_in};
 ghost use Rattle.object_reader.specs.declared.block.BlockKind.TheVariants.{Host, Service};
 ghost use Rattle.object_unknown_services.specs.Distinct.{AreNamers};
 ghost use Rattle.object_unknown_services.specs.Keys.{AreByKey, GivesKey};
 ghost use Rattle.object_unknown_services.specs.Stamps.{AreBelow};
 ghost use Rattle.object_unknown_services.specs.Unknown.{HasUnknownIn, HasUnknownOf};
-ghost use Rattle.object_unknown_services.specs.Unknown.{HasUnknownService, is_before};
+ghost use Rattle.object_unknown_services.specs.claims.Unknown.{HasUnknownService};
+ghost use Rattle.object_unknown_services.specs.Unknown.{is_before};
 ghost use Rattle.object_unknown_services.specs.Unknown.{LacksAmong, LacksAt, LacksIn, ListsUnstamped};
 
 use crate::keys::{Namers, givers, namers_of};

@@ -4,8 +4,8 @@ use Rattle.std.specs.List.{after_first, before_first, onto_first, position_or_le
 use Rattle.std.proofs.lemmas.List.{append-nil, take_rest}
 use Rattle.std.proofs.lemmas.List.Splits.{slice_split_first}
 use Rattle.std.proofs.Math.Seq.{take-length}
-use Rattle.object_reader.specs.Blanks.{trimmed}
-use Rattle.object_values.specs.Values.{entries, is_comma}
+use Rattle.object_reader.specs.claims.Blanks.{trimmed}
+use Rattle.object_values.specs.claims.Values.{entries, is_comma}
 
 pub position_or_len-le : (bytes : List ℕ) → position_or_len is_comma bytes ≤ length bytes
 position_or_len-le [] = omega arith

@@ -2,7 +2,7 @@
 use Rattle.std.proofs.Common.{◌≡◌, ℕ, ◌+◌, ◌-◌, ◌*◌, ◌<◌, List, [], ◌∷◌, length, map, take, get_or, ap, ◌∙◌}
 use Rattle.std.proofs.lemmas.List.{take_more, map-append}
 use Rattle.std.proofs.lemmas.Int.Digits.{number_push}
-use Rattle.object_values.specs.Values.{number_of}
+use Rattle.object_values.specs.claims.Values.{number_of}
 
 -- one more digit
 pub number_of-more : (digits : List ℕ) (at : ℕ) → at < length digits

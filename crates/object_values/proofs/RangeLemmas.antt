@@ -6,8 +6,8 @@ use Rattle.std.proofs.lemmas.List.{append-nil, take_rest}
 use Rattle.std.proofs.lemmas.List.Splits.{slice_split_first}
 use Rattle.std.proofs.Math.Seq.{take-length}
 use Rattle.due_model.specs.declared.config.Range.{Range}
-use Rattle.object_values.specs.Ranges.{range_in, ranges_among}
-use Rattle.object_values.specs.Values.{is_comma}
+use Rattle.object_values.specs.claims.Ranges.{range_in, ranges_among}
+use Rattle.object_values.specs.claims.Values.{is_comma}
 use Rattle.object_values.proofs.EntryLemmas.{first_long, position_or_len-le, split-whole}
 
 one_part : (part : List ℕ) (others : List (List ℕ)) → filter_map range_in (part ∷ others) ≡ option_to_list (range_in part) ++ filter_map range_in others

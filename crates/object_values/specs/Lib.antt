@@ -1,4 +1,2 @@
+pub mod claims
 pub mod Values
-pub mod Options
-pub mod Ranges
-pub mod DayRules

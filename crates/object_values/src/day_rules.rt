@@ -6,9 +6,9 @@ ghost use Rattle.std.specs.Option.{option_map};
 ghost use Rattle.due_model.specs.declared.config.DayRule.TheVariants.{OfEachMonth, OfMonth};
 ghost use Rattle.due_model.specs.declared.config.DayRule.TheVariants.{WeekdayOfEachMonth};
 ghost use Rattle.due_model.specs.declared.config.DayRule.TheVariants.{WeekdayOfMonth};
-ghost use Rattle.object_values.specs.DayRules.{back_from, by_month, by_weekday, counted_in, date_in};
-ghost use Rattle.object_values.specs.DayRules.{date_of, day_named, of_weekday, part_in, ruled, signed_in};
-ghost use Rattle.object_values.specs.DayRules.{year_in};
+ghost use Rattle.object_values.specs.claims.DayRules.{back_from, by_month, by_weekday, counted_in, date_in};
+ghost use Rattle.object_values.specs.claims.DayRules.{date_of, day_named, of_weekday, part_in, ruled, signed_in};
+ghost use Rattle.object_values.specs.claims.DayRules.{year_in};
 
 use crate::ranges::{after, before, month_of, weekday_of};
 use crate::values::{are_digits, equals, number_in};
@@ -199,7 +199,7 @@ fn by_month(month: Option<u8>, first: &[u8], rest: &[u8]) -> DayName
 
 /// What the name of a line of dates says, whose words have one space between each two: the day of one date, a day of a
 /// month or of each, the n-th weekday of a month or of each; a number that no day, place or month has; or something else.
-#[tactic(auto, unfolding(crate::specs::DayRules::day_named))]
+#[tactic(auto, unfolding(crate::specs::claims::DayRules::day_named))]
 pub fn day_named(name: &[u8]) -> DayName
     ensures { result ≡ day_named name.now }
 {

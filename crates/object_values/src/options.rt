@@ -4,12 +4,12 @@
 ghost use Rattle.std.specs.Prelude.{◌≡◌, ◌||◌, ◌∷◌, [], codes};
 ghost use Rattle.std.specs.List.{list_any};
 ghost use Rattle.std.specs.Str.{bytes_eq};
-ghost use Rattle.object_reader.specs.Blanks.{is_blank};
-ghost use Rattle.object_values.specs.Options.{are_among, criteria_in, criteria_words, gives, given_letters};
-ghost use Rattle.object_values.specs.Options.{given_host_states, given_service_states, is_of_hosts};
-ghost use Rattle.object_values.specs.Options.{letters_of, option_words, options_in, parts, states_of};
-ghost use Rattle.object_values.specs.Options.{every_host_state, every_service_state, no_letter, no_state};
-ghost use Rattle.object_values.specs.Values.{is_comma};
+ghost use Rattle.object_reader.specs.claims.Blanks.{is_blank};
+ghost use Rattle.object_values.specs.claims.Options.{are_among, criteria_in, criteria_words, gives, given_letters};
+ghost use Rattle.object_values.specs.claims.Options.{given_host_states, given_service_states, is_of_hosts};
+ghost use Rattle.object_values.specs.claims.Options.{letters_of, option_words, options_in, parts, states_of};
+ghost use Rattle.object_values.specs.claims.Options.{every_host_state, every_service_state, no_letter, no_state};
+ghost use Rattle.object_values.specs.claims.Values.{is_comma};
 
 use crate::values::equals;
 use due_model::options::OptionLetters;
@@ -165,7 +165,7 @@ const NO_LETTER: OptionLetters = OptionLetters {
 /// The options that a list of that kind allows: letters or their words, between commas and blanks. One with `n`
 /// allows nothing, whatever else it has; one with `a` everything, as where it isn't given; one without
 /// entries nothing. `None` where it has a word that is no option of its kind.
-#[tactic(auto, unfolding(crate::specs::Options::options_in))]
+#[tactic(auto, unfolding(crate::specs::claims::Options::options_in))]
 pub fn options_in(kind: OptionKind, text: &[u8]) -> Option<OptionLetters>
     ensures { result ≡ options_in kind text.now }
 {
@@ -319,7 +319,7 @@ fn states_of(kind: CriteriaKind, text: &[u8]) -> StateSet
 /// The states that failure criteria of that kind name: letters or their words, between commas and blanks. Those
 /// with `n` name none, whatever else they have; those with `a` each state of the kind, pending too; those
 /// without entries none. `None` where they have a word that is no state of the kind.
-#[tactic(auto, unfolding(crate::specs::Options::criteria_in))]
+#[tactic(auto, unfolding(crate::specs::claims::Options::criteria_in))]
 pub fn criteria_in(kind: CriteriaKind, text: &[u8]) -> Option<StateSet>
     ensures { result ≡ criteria_in kind text.now }
 {

@@ -6,9 +6,9 @@ ghost use Rattle.std.specs.Prelude.{if◌then◌else◌, None};
 ghost use Rattle.std.specs.List.{after_first, before_first, list_any, position};
 ghost use Rattle.std.specs.Option.{option_to_list};
 ghost use Rattle.std.specs.Str.{bytes_eq};
-ghost use Rattle.object_values.specs.Ranges.{are_ranges, ends_before_it_begins, is_dated, month_of, range_in};
-ghost use Rattle.object_values.specs.Ranges.{ranges_among, ranges_in, time_in, time_of, weekday_of};
-ghost use Rattle.object_values.specs.Values.{number_in};
+ghost use Rattle.object_values.specs.claims.Ranges.{are_ranges, ends_before_it_begins, is_dated, month_of, range_in};
+ghost use Rattle.object_values.specs.claims.Ranges.{ranges_among, ranges_in, time_in, time_of, weekday_of};
+ghost use Rattle.object_values.specs.claims.Values.{number_in};
 
 use crate::values::{equals, number_in};
 use due_model::config::Range;

@@ -6,9 +6,10 @@ ghost use Rattle.std.specs.Char.{is_ascii_digit};
 ghost use Rattle.std.specs.List.{before_first, list_all, list_any, position};
 ghost use Rattle.std.specs.Option.{option_copied};
 ghost use Rattle.std.specs.Str.{bytes_eq};
-ghost use Rattle.due_model.specs.Limits.{max_number};
-ghost use Rattle.object_values.specs.Values.{command_name, entries, entries_of, is_comma, texts, number_in};
-ghost use Rattle.object_values.specs.Values.{number_of, value_in};
+ghost use Rattle.due_model.specs.claims.Limits.{max_number};
+ghost use Rattle.object_values.specs.claims.Values.{command_name, entries, entries_of, is_comma, number_in};
+ghost use Rattle.object_values.specs.Values.{texts};
+ghost use Rattle.object_values.specs.claims.Values.{number_of, value_in};
 
 use due_model::limits::MAX_NUMBER;
 use object_reader::blanks::trim;

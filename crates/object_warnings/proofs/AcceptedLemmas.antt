@@ -6,7 +6,7 @@ use Rattle.std.proofs.lemmas.List.{length-map}
 use Rattle.std.proofs.lemmas.List.Elements.{All-map, All-weaker}
 use Rattle.std.proofs.lemmas.Option.{none-some, same_Some, slice_get-map}
 use Rattle.lemmas.proofs.Chains.{Chain-map}
-use Rattle.due_model.specs.Accepted.{DependsOn, Excludes, IsAccepted, PeriodFits}
+use Rattle.due_model.specs.claims.Accepted.{DependsOn, Excludes, IsAccepted, PeriodFits}
 use Rattle.due_model.specs.declared.config.Config.{Config}
 use Rattle.due_model.specs.declared.config.Period.{Period}
 use Rattle.due_model.specs.declared.config.PeriodId.{PeriodId}

@@ -9,8 +9,8 @@ use Rattle.std.proofs.lemmas.List.{get_or-map, get_or_append_left, length-set, m
 use Rattle.std.proofs.lemmas.List.FromFn.{get_or-map-range_with_len, length-map-range_with_len, map-range_with_len_more}
 use Rattle.lemmas.proofs.Lists.{slice_get_read}
 use Rattle.lemmas.proofs.Writes.{at_set}
-use Rattle.due_model.specs.Periods.{holds, in_period, in_range, ranges_at}
-use Rattle.due_model.specs.Local.{Local}
+use Rattle.due_model.specs.claims.Periods.{holds, in_period, in_range, ranges_at}
+use Rattle.due_model.specs.claims.Local.{Local}
 use Rattle.due_model.specs.declared.config.Config.{Config}
 use Rattle.due_model.specs.declared.config.Object.{Object}
 use Rattle.due_model.specs.declared.config.Period.{Period}

@@ -2,7 +2,7 @@
 use Rattle.std.proofs.Common.{◌≡◌, ℕ, ◌<◌, List, length, get_or, sym, subst, ◌∙◌, arith}
 use Rattle.std.proofs.lemmas.List.{get_or_default}
 use Rattle.due_model.specs.declared.config.Config.{Config}
-use Rattle.time_period.specs.Days.{AreCompiled, IsCompiled, never, Worked}
+use Rattle.time_period.specs.claims.Days.{AreCompiled, IsCompiled, never, Worked}
 
 -- what the place of a period holds is worked out of it
 pub its_own : (c : Config) (all : List Worked) (number : ℕ) (worked : Worked) → AreCompiled c all → number < length all

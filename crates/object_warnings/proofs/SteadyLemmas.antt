@@ -4,9 +4,9 @@ use Rattle.std.specs.Prelude.{slice_get}
 use Rattle.std.specs.List.{list_any, range_with_len}
 use Rattle.std.proofs.lemmas.List.Elements.{All-map}
 use Rattle.lemmas.proofs.Lists.{All-slice_get}
-use Rattle.due_model.specs.Days.{lines_on, ranges_by}
-use Rattle.due_model.specs.Local.{Local, local, weekday_at}
-use Rattle.due_model.specs.Periods.{holds, in_range, ranges_at, weekly_ranges}
+use Rattle.due_model.specs.claims.Days.{lines_on, ranges_by}
+use Rattle.due_model.specs.claims.Local.{Local, local, weekday_at}
+use Rattle.due_model.specs.claims.Periods.{holds, in_range, ranges_at, weekly_ranges}
 use Rattle.due_model.specs.declared.config.Config.{Config}
 use Rattle.due_model.specs.declared.config.Dated.{Dated}
 use Rattle.due_model.specs.declared.config.Period.{Period}

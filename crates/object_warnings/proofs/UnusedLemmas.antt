@@ -8,14 +8,16 @@ use Rattle.object_check.specs.Rows.{Asked, name_rows}
 use Rattle.object_check.specs.declared.rows.Must.{Must}
 use Rattle.object_check.specs.declared.rows.Must.TheVariants.{Be, Name, HaveWholeLines, HaveDayLines}
 use Rattle.object_check.specs.declared.rows.Must.TheVariants as musts
-use Rattle.object_groups.specs.Objects.{ObjectsOf, names_in, objects_in}
+use Rattle.object_groups.specs.claims.Objects.{names_in, objects_in}
+use Rattle.object_groups.specs.Objects.{ObjectsOf}
 use Rattle.object_inheritance.specs.Columns.{Column}
-use Rattle.object_inheritance.specs.Templates.{kind_number}
-use Rattle.object_names.specs.Named.{block_kind}
+use Rattle.object_inheritance.specs.claims.Templates.{kind_number}
+use Rattle.object_names.specs.claims.Named.{block_kind}
 use Rattle.object_names.specs.declared.named.NamedKind.{NamedKind}
 use Rattle.object_reader.specs.declared.block.Block.{Block}
 use Rattle.object_reader.specs.declared.block.BlockKind.{BlockKind}
-use Rattle.object_values.specs.Values.{texts, value_in}
+use Rattle.object_values.specs.claims.Values.{value_in}
+use Rattle.object_values.specs.Values.{texts}
 use Rattle.object_warnings.specs.Unused.{is_unused, is_unused_at, named_by, named_in, names_by, names_given, names_kind}
 
 -- what one more element gives

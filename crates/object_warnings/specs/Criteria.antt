@@ -2,13 +2,14 @@
 use Rattle.std.specs.Prelude.{ℕ, Bool, true, false, not, ◌&&◌, ◌||◌, List, codes, Option, None, Some, slice_get, if◌then◌else◌}
 use Rattle.std.specs.Option.{option_map_or}
 use Rattle.due_model.specs.declared.state.StateSet.{StateSet}
-use Rattle.object_inheritance.specs.Inherited.{value}
-use Rattle.object_inheritance.specs.Kinds.{is_dependency, is_service_dependency, means_nothing}
-use Rattle.object_inheritance.specs.Registered.{registers}
+use Rattle.object_inheritance.specs.claims.Inherited.{value}
+use Rattle.object_inheritance.specs.claims.Kinds.{means_nothing}
+use Rattle.object_inheritance.specs.Kinds.{is_dependency, is_service_dependency}
+use Rattle.object_inheritance.specs.claims.Registered.{registers}
 use Rattle.object_reader.specs.declared.block.Block.{Block}
 use Rattle.object_reader.specs.declared.block.BlockKind.{BlockKind}
-use Rattle.object_values.specs.Options.{criteria_in}
-use Rattle.object_values.specs.Values.{value_in}
+use Rattle.object_values.specs.claims.Options.{criteria_in}
+use Rattle.object_values.specs.claims.Values.{value_in}
 use Rattle.object_values.specs.declared.options.CriteriaKind.{CriteriaKind}
 use Rattle.object_values.specs.declared.options.CriteriaKind.TheVariants.{OfHosts, OfServices}
 

@@ -4,8 +4,8 @@ use Rattle.std.specs.List.{before_first, flat_map, list_any, range_with_len}
 use Rattle.std.specs.Option.{option_map_or}
 use Rattle.std.specs.Str.{bytes_eq}
 use Rattle.object_groups.specs.Names.{is_doubled}
-use Rattle.object_inheritance.specs.Kinds.{is_period}
-use Rattle.object_reader.specs.DayLines.{begins_day}
+use Rattle.object_inheritance.specs.claims.Kinds.{is_period}
+use Rattle.object_reader.specs.claims.DayLines.{begins_day}
 use Rattle.object_reader.specs.declared.block.Block.{Block}
 use Rattle.object_reader.specs.declared.block.BlockKind.{BlockKind}
 use Rattle.object_reader.specs.declared.block.Directive.{Directive}

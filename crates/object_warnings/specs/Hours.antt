@@ -4,7 +4,7 @@ use Rattle.std.specs.Prelude.{◌≡◌, ℕ, ◌+◌, ◌*◌, ◌<◌, ◌≤�
 use Rattle.std.specs.List.{list_any, range_with_len}
 use Rattle.std.specs.Option.{option_map_or}
 use Rattle.due_model.specs.ByObject.{places_of}
-use Rattle.due_model.specs.Periods.{in_period}
+use Rattle.due_model.specs.claims.Periods.{in_period}
 use Rattle.due_model.specs.declared.config.Config.{Config}
 use Rattle.due_model.specs.declared.config.ContactId.{ContactId}
 use Rattle.due_model.specs.declared.config.Object.{Object}

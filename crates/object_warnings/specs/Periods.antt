@@ -2,8 +2,8 @@
 use Rattle.std.specs.Prelude.{ℕ, Bool, false, not, ◌==◌, ◌&&◌, List, [], length, is_none, Some, slice_get, if◌then◌else◌}
 use Rattle.std.specs.List.{list_all, list_any}
 use Rattle.std.specs.Option.{option_map_or}
-use Rattle.due_model.specs.Limits.{day}
-use Rattle.due_model.specs.Periods.{next_in}
+use Rattle.due_model.specs.claims.Limits.{day}
+use Rattle.due_model.specs.claims.Periods.{next_in}
 use Rattle.due_model.specs.declared.config.Config.{Config}
 use Rattle.due_model.specs.declared.config.Period.{Period}
 use Rattle.due_model.specs.declared.config.Range.{Range}

@@ -1,8 +1,8 @@
 -- Moments between which no range of a weekday begins or ends (chapter "Time Periods").
 use Rattle.std.specs.Prelude.{◌≡◌, ℕ, Bool, All, List}
 use Rattle.std.specs.List.{list_any}
-use Rattle.due_model.specs.Local.{local, weekday_at}
-use Rattle.due_model.specs.Periods.{in_range, weekly_ranges}
+use Rattle.due_model.specs.claims.Local.{local, weekday_at}
+use Rattle.due_model.specs.claims.Periods.{in_range, weekly_ranges}
 use Rattle.due_model.specs.declared.config.Period.{Period}
 use Rattle.due_model.specs.declared.zone.Zone.{Zone}
 

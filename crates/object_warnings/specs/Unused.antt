@@ -6,19 +6,20 @@ use Rattle.object_check.specs.Rows.{Asked, name_rows}
 use Rattle.object_check.specs.declared.rows.Must.{Must}
 use Rattle.object_check.specs.declared.rows.Must.TheVariants.{Be, Name, HaveWholeLines, HaveDayLines}
 use Rattle.object_check.specs.declared.rows.Must.TheVariants as musts
-use Rattle.object_groups.specs.Names.{lacks}
-use Rattle.object_groups.specs.Objects.{names_in, objects_in}
-use Rattle.object_inheritance.specs.Inherited.{has_entries, name_of, own_entries}
-use Rattle.object_inheritance.specs.Registered.{registers}
-use Rattle.object_inheritance.specs.Templates.{kind_number}
-use Rattle.object_names.specs.Named.{block_kind}
+use Rattle.object_groups.specs.claims.Names.{lacks}
+use Rattle.object_groups.specs.claims.Objects.{names_in, objects_in}
+use Rattle.object_inheritance.specs.claims.Inherited.{name_of, own_entries}
+use Rattle.object_inheritance.specs.Inherited.{has_entries}
+use Rattle.object_inheritance.specs.claims.Registered.{registers}
+use Rattle.object_inheritance.specs.claims.Templates.{kind_number}
+use Rattle.object_names.specs.claims.Named.{block_kind}
 use Rattle.object_names.specs.declared.named.NamedKind.{NamedKind}
 use Rattle.object_names.specs.declared.named.NamedKind.TheVariants.{Host, HostGroup, ServiceGroup, Contact, ContactGroup, TimePeriod, Command}
 use Rattle.object_names.specs.declared.references.Reading.{Reading}
 use Rattle.object_names.specs.declared.references.Reading.TheVariants.{NamesOrAll, Names, Period, Commands}
 use Rattle.object_reader.specs.declared.block.Block.{Block}
 use Rattle.object_reader.specs.declared.block.BlockKind.{BlockKind}
-use Rattle.object_values.specs.Values.{command_name, entries_of, value_in}
+use Rattle.object_values.specs.claims.Values.{command_name, entries_of, value_in}
 
 -- ---- what blocks name: objects and templates alike, each by what it gives itself
 

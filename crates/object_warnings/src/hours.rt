@@ -1,7 +1,7 @@
 //! Objects of which nobody is told at some time of a week (chapters "Notifications" and "Time Periods").
 
 ghost use Rattle.std.specs.Prelude.{◌≡◌, ◌<◌, ◌&&◌, length, IfOk, OnOk};
-ghost use Rattle.due_model.specs.Accepted.{IsAccepted};
+ghost use Rattle.due_model.specs.claims.Accepted.{IsAccepted};
 ghost use Rattle.object_warnings.specs.Hours.{AreAlways, AreFirst, AreKnown, IsFirst, lacks_hours};
 ghost use Rattle.object_warnings.specs.Hours.{rows_of, weekly};
 ghost use Rattle.object_warnings.specs.Objects.{can_notify, is_told};

@@ -2,8 +2,8 @@
 
 ghost use Rattle.std.specs.Prelude.{◌≡◌, ◌≤◌, length, IfOk};
 ghost use Rattle.std.specs.List.{list_any};
-ghost use Rattle.due_model.specs.Accepted.{IsAccepted};
-ghost use Rattle.due_model.specs.Limits.{max_objects};
+ghost use Rattle.due_model.specs.claims.Accepted.{IsAccepted};
+ghost use Rattle.due_model.specs.claims.Limits.{max_objects};
 ghost use Rattle.object_warnings.specs.Numbers.{numbers_where};
 ghost use Rattle.object_warnings.specs.Objects.{can_notify, has_command, has_some_letter};
 ghost use Rattle.object_warnings.specs.Objects.{is_told, lacks_problems, lacks_problems_at, rights_of};

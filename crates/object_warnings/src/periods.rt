@@ -2,12 +2,12 @@
 
 ghost use Rattle.std.specs.Prelude.{◌≡◌, ◌≤◌, ◌<◌, length, IfOk};
 ghost use Rattle.std.specs.List.{list_all};
-ghost use Rattle.due_model.specs.Limits.{last_moment};
+ghost use Rattle.due_model.specs.claims.Limits.{last_moment};
 ghost use Rattle.due_model.specs.declared.config.Config.{Config};
 ghost use Rattle.object_warnings.specs.Numbers.{numbers_where};
 ghost use Rattle.object_warnings.specs.Periods.{has_whole_day, is_always, is_partial_at};
 ghost use Rattle.object_warnings.specs.Periods.{never_holds, without_zone};
-ghost use Rattle.time_period.specs.Days.{AreCompiled};
+ghost use Rattle.time_period.specs.claims.Days.{AreCompiled};
 
 use crate::numbers::push_where;
 use due_model::config::{Config, Period, Range};

@@ -1,7 +1,7 @@
 //! Moments between which no range of a weekday begins or ends (chapter "Time Periods").
 
 ghost use Rattle.std.specs.Prelude.{◌≡◌, ◌<◌, ◌^◌, false, true, All};
-ghost use Rattle.due_model.specs.Periods.{in_range, weekly_ranges};
+ghost use Rattle.due_model.specs.claims.Periods.{in_range, weekly_ranges};
 ghost use Rattle.object_warnings.specs.Steady.{IsSteady, Keeps, own_holds};
 
 use due_model::config::{Period, Range};

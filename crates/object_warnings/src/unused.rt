@@ -4,11 +4,12 @@ ghost use Rattle.std.specs.Prelude.{◌≡◌, ◌++◌, ◌∷◌, [], codes, f
 ghost use Rattle.std.specs.Prelude.{IfOk, OnOk, if◌then◌else◌};
 ghost use Rattle.std.specs.Option.{option_copied};
 ghost use Rattle.object_check.specs.Rows.{said_by};
-ghost use Rattle.object_groups.specs.Objects.{objects_in};
-ghost use Rattle.object_inheritance.specs.Inherited.{is_additive, name_of, own_entries};
-ghost use Rattle.object_names.specs.Named.{block_kind};
+ghost use Rattle.object_groups.specs.claims.Objects.{objects_in};
+ghost use Rattle.object_inheritance.specs.claims.Inherited.{is_additive, name_of, own_entries};
+ghost use Rattle.object_names.specs.claims.Named.{block_kind};
 ghost use Rattle.object_reader.specs.declared.block.Block.{Block};
-ghost use Rattle.object_values.specs.Values.{command_name, texts};
+ghost use Rattle.object_values.specs.claims.Values.{command_name};
+ghost use Rattle.object_values.specs.Values.{texts};
 ghost use Rattle.object_warnings.specs.Numbers.{numbers_where};
 ghost use Rattle.object_warnings.specs.Unused.{has_unused_name, is_kind, is_named, is_template};
 ghost use Rattle.object_warnings.specs.Unused.{is_unused, is_unused_at, is_unused_template, joins};

@@ -1,14 +1,14 @@
 //! Which periods hold at each minute of a week, holidays apart (chapter "Time Periods").
 
 ghost use Rattle.std.specs.Prelude.{◌≡◌, ◌+◌, ◌-◌, ◌<◌, ◌≤◌, [], length, map, slice_index_or, true, All, IfOk, Some};
-ghost use Rattle.due_model.specs.Accepted.{IsAccepted};
+ghost use Rattle.due_model.specs.claims.Accepted.{IsAccepted};
 ghost use Rattle.due_model.specs.declared.config.Config.{Config};
 ghost use Rattle.due_model.specs.declared.zone.Zone.TheVariants.{Utc};
-ghost use Rattle.due_model.specs.Limits.{last_moment};
-ghost use Rattle.due_model.specs.Periods.{in_period};
+ghost use Rattle.due_model.specs.claims.Limits.{last_moment};
+ghost use Rattle.due_model.specs.claims.Periods.{in_period};
 ghost use Rattle.object_warnings.specs.Hours.{AreEnds, IsUndated, Stays, flags_at, moment_of, plain, row_at};
 ghost use Rattle.object_warnings.specs.Hours.{rows_of, rows_upto, week, weekly};
-ghost use Rattle.time_period.specs.Days.{AreCompiled};
+ghost use Rattle.time_period.specs.claims.Days.{AreCompiled};
 
 use crate::steady::is_steady;
 use due_model::config::{Config, Period, PeriodId, Range};

@@ -16,21 +16,23 @@ use Rattle.due_model.specs.declared.notice.Outcome.TheVariants.{Nothing, Sent, S
 use Rattle.due_model.specs.declared.rules.View.{View}
 use Rattle.due_model.specs.declared.state.State.{State}
 use Rattle.due_model.specs.declared.zone.Zone.{Zone}
-use Rattle.due_model.specs.Acknowledgements.{acked, acknowledgement, is_removal_of, takes_back}
+use Rattle.due_model.specs.claims.Acknowledgements.{acked, acknowledgement, is_removal_of, takes_back}
 use Rattle.due_model.specs.declared.event.EventKind.{EventKind}
 use Rattle.due_model.specs.declared.event.EventKind.TheVariants as event
-use Rattle.due_model.specs.Histories.{down_with_host, gap_of, host_holds, judged, lapses, number_after, repeats, with_repeat, outcome_of, reach_of, status_after, timed, view}
-use Rattle.due_model.specs.Periods.{first_passing, next_in}
-use Rattle.due_model.specs.Readings.{hard, hard_after, is_problem_state, moment}
-use Rattle.due_model.specs.Rules.{attempted, failing, is_problem}
+use Rattle.due_model.specs.claims.Histories.{down_with_host, gap_of, host_holds, judged, lapses, number_after, repeats, with_repeat, outcome_of, reach_of, status_after, timed, view}
+use Rattle.due_model.specs.claims.Periods.{first_passing, next_in}
+use Rattle.due_model.specs.claims.Readings.{hard, hard_after, is_problem_state, moment}
+use Rattle.due_model.specs.claims.Rules.{attempted, failing, is_problem}
 use Rattle.lemmas.proofs.Acknowledgements.{acked_is}
 use Rattle.outcomes.specs.declared.found.Found.{Found}
 use Rattle.outcomes.specs.Found.{IsFound, attempt_by, tried, view_by}
 use Rattle.outcomes.specs.Outcome.{IsInRange, IsOfKind, heard_of, with_heard}
-use Rattle.problem_count.specs.Book.{BookValues, after_hard, begins_problem}
-use Rattle.problem_count.specs.Fits.{BookFits, BookFitsWithin, ended_in, lapses_at, outcome_at, problem_before}
+use Rattle.problem_count.specs.claims.Book.{BookValues}
+use Rattle.problem_count.specs.Book.{after_hard, begins_problem}
+use Rattle.problem_count.specs.claims.Fits.{BookFits}
+use Rattle.problem_count.specs.Fits.{BookFitsWithin, ended_in, lapses_at, outcome_at, problem_before}
 use Rattle.problem_count.specs.Laws.{OutcomesAreByDue, ProblemsRun, is_of_problem_attempt}
-use Rattle.time_period.specs.Days.{AreCompiled, IsCompiled, never, Worked}
+use Rattle.time_period.specs.claims.Days.{AreCompiled, IsCompiled, never, Worked}
 
 -- ---- a period that is worked out
 

@@ -8,11 +8,11 @@ use Rattle.due_model.specs.declared.notice.Kind.{Kind}
 use Rattle.due_model.specs.declared.rules.Attempt.{Attempt}
 use Rattle.due_model.specs.declared.rules.View.{View}
 use Rattle.due_model.specs.declared.zone.Zone.{Zone}
-use Rattle.due_model.specs.Histories.{depends_at, host_holds, is_enabled, repeats, status_after, waiting, with_repeat}
-use Rattle.due_model.specs.Readings.{down, is_hard_of, is_problem_state, moment, program_on}
-use Rattle.due_model.specs.Rules.{attempted}
+use Rattle.due_model.specs.claims.Histories.{depends_at, host_holds, is_enabled, repeats, status_after, waiting, with_repeat}
+use Rattle.due_model.specs.claims.Readings.{down, is_hard_of, is_problem_state, moment, program_on}
+use Rattle.due_model.specs.claims.Rules.{attempted}
 use Rattle.outcomes.specs.declared.found.Found.{Found}
-use Rattle.problem_count.specs.Book.{BookValues}
+use Rattle.problem_count.specs.claims.Book.{BookValues}
 
 -- whether a service's host is in downtime
 abbrev pub is_host_down : Option ObjectId → List Event → Bool

@@ -8,18 +8,20 @@ use Rattle.due_model.specs.declared.notice.Kind.{Kind}
 use Rattle.due_model.specs.declared.notice.Outcome.{Outcome}
 use Rattle.due_model.specs.declared.notice.Outcome.TheVariants.{Nothing, Sent, Suppressed}
 use Rattle.due_model.specs.declared.zone.Zone.{Zone}
-use Rattle.due_model.specs.Acknowledgements.{acknowledgement}
-use Rattle.due_model.specs.Limits.{last_moment}
-use Rattle.due_model.specs.Readings.{hard_after, is_problem_state, moment}
-use Rattle.due_model.specs.Receivers.{is_heard}
-use Rattle.due_model.specs.Rules.{is_problem}
+use Rattle.due_model.specs.claims.Acknowledgements.{acknowledgement}
+use Rattle.due_model.specs.claims.Limits.{last_moment}
+use Rattle.due_model.specs.claims.Readings.{hard_after, is_problem_state, moment}
+use Rattle.due_model.specs.claims.Receivers.{is_heard}
+use Rattle.due_model.specs.claims.Rules.{is_problem}
 use Rattle.outcomes.specs.declared.found.Found.{Found}
 use Rattle.outcomes.specs.declared.outcome.Decision.{Decision}
 use Rattle.outcomes.specs.declared.outcome.Judgement.{Judgement}
 use Rattle.outcomes.specs.declared.rules.Rules.{Rules}
 use Rattle.outcomes.specs.Found.{IsFound}
-use Rattle.problem_count.specs.Book.{BookValues, longest_gap}
-use Rattle.problem_count.specs.Fits.{BookFits, BookFitsLapsed, BookFitsWithin, outcome_at}
+use Rattle.problem_count.specs.claims.Book.{BookValues}
+use Rattle.problem_count.specs.Book.{longest_gap}
+use Rattle.problem_count.specs.claims.Fits.{BookFits}
+use Rattle.problem_count.specs.Fits.{BookFitsLapsed, BookFitsWithin, outcome_at}
 
 -- the moment and the gap of an outcome are within their limits
 abbrev pub IsInRange : Outcome → Type 0

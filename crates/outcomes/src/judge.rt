@@ -3,10 +3,10 @@
 ghost use Rattle.std.specs.Prelude.{◌≡◌, ◌≤◌, ◌<◌, ◌+◌, ◌^◌, ◌&&◌};
 ghost use Rattle.std.specs.Prelude.{if◌then◌else◌, length, slice_get, true, IfSome, None, Some};
 ghost use Rattle.due_model.specs.declared.config.Object.{Object};
-ghost use Rattle.due_model.specs.Histories.{gap_of, judged, told_for};
-ghost use Rattle.due_model.specs.Limits.{last_moment};
-ghost use Rattle.due_model.specs.Readings.{is_hard_of};
-ghost use Rattle.due_model.specs.Rules.{letter_of};
+ghost use Rattle.due_model.specs.claims.Histories.{gap_of, judged, told_for};
+ghost use Rattle.due_model.specs.claims.Limits.{last_moment};
+ghost use Rattle.due_model.specs.claims.Readings.{is_hard_of};
+ghost use Rattle.due_model.specs.claims.Rules.{letter_of};
 ghost use Rattle.filters.specs.Attempt.{IsLastInRange, plain};
 ghost use Rattle.outcomes.specs.Found.{attempt_by, view_by};
 ghost use Rattle.outcomes.specs.Outcome.{IsInRange, IsOfKind, with_heard};

@@ -3,10 +3,10 @@
 ghost use Rattle.std.specs.Prelude.{◌≡◌, ◌≤◌, ◌<◌, ◌==◌, ◌&&◌, ◌||◌, not};
 ghost use Rattle.std.specs.Prelude.{is_some, length, nat_lt, slice_get, Some};
 ghost use Rattle.due_model.specs.declared.config.Object.{Object};
-ghost use Rattle.due_model.specs.Histories.{is_by_switch, lapses, stop_lapses};
-ghost use Rattle.due_model.specs.Limits.{last_moment};
-ghost use Rattle.due_model.specs.Periods.{in_period};
-ghost use Rattle.due_model.specs.Rules.{is_problem, is_recovery};
+ghost use Rattle.due_model.specs.claims.Histories.{is_by_switch, lapses, stop_lapses};
+ghost use Rattle.due_model.specs.claims.Limits.{last_moment};
+ghost use Rattle.due_model.specs.claims.Periods.{in_period};
+ghost use Rattle.due_model.specs.claims.Rules.{is_problem, is_recovery};
 ghost use Rattle.outcomes.specs.Outcome.{IsInRange, Lapses};
 ghost use Rattle.outcomes.specs.Rules.{AreRules};
 

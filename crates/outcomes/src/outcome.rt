@@ -2,12 +2,12 @@
 
 ghost use Rattle.std.specs.Prelude.{◌≡◌, ◌≤◌, ◌<◌, ◌+◌, ◌^◌, ◌&&◌, is_some, length, true, List};
 ghost use Rattle.due_model.specs.declared.event.Event.{Event};
-ghost use Rattle.due_model.specs.Acknowledgements.{acknowledgement, is_removal_of, takes_back};
-ghost use Rattle.due_model.specs.Limits.{last_moment};
+ghost use Rattle.due_model.specs.claims.Acknowledgements.{acknowledgement, is_removal_of, takes_back};
+ghost use Rattle.due_model.specs.claims.Limits.{last_moment};
 ghost use Rattle.outcomes.specs.Outcome.{Begins, Concludes, Decides, IsJudgement, with_heard};
-ghost use Rattle.due_model.specs.Readings.{hard_after, is_problem_state};
+ghost use Rattle.due_model.specs.claims.Readings.{hard_after, is_problem_state};
 ghost use Rattle.outcomes.specs.Found.{tried};
-ghost use Rattle.due_model.specs.Histories.{timed, with_repeat};
+ghost use Rattle.due_model.specs.claims.Histories.{timed, with_repeat};
 ghost use Rattle.outcomes.specs.Rules.{AreRules};
 
 use crate::found::Found;

@@ -3,10 +3,10 @@
 ghost use Rattle.std.specs.Prelude.{◌≡◌, ◌≤◌, ◌<◌, ◌+◌, ◌^◌};
 ghost use Rattle.std.specs.Prelude.{true, length, slice_get, Some};
 ghost use Rattle.due_model.specs.declared.config.Object.{Object};
-ghost use Rattle.due_model.specs.Accepted.{ObjectFits};
-ghost use Rattle.due_model.specs.Limits.{last_moment};
-ghost use Rattle.due_model.specs.Readings.{is_problem_state};
-ghost use Rattle.due_model.specs.Rules.{is_problem};
+ghost use Rattle.due_model.specs.claims.Accepted.{ObjectFits};
+ghost use Rattle.due_model.specs.claims.Limits.{last_moment};
+ghost use Rattle.due_model.specs.claims.Readings.{is_problem_state};
+ghost use Rattle.due_model.specs.claims.Rules.{is_problem};
 ghost use Rattle.outcomes.specs.Outcome.{IsInRange, Settles};
 ghost use Rattle.outcomes.specs.Rules.{AreRules};
 ghost use Rattle.problem_count.specs.Fits.{IsNextMoment};

@@ -10,12 +10,13 @@ use Rattle.due_model.specs.declared.event.Event.{Event}
 use Rattle.event_feed.specs.declared.fault.FeedFault.{FeedFault}
 use Rattle.event_feed.specs.declared.fault.FeedFault.TheVariants.{BadStamp, UnknownKind, UnknownObject, BadState, LineTooLong, NotUtf8, Ahead, Cut, Read, NoMemory, Ended}
 use Rattle.event_feed.specs.declared.fault.RefusedLine.{RefusedLine}
-use Rattle.event_feed.specs.Fault.{stop_fault}
-use Rattle.event_feed.specs.Feed.{Answer, AnswersNext, AnswersNone, AreFromLine, AreGiven, AreGivenBy, ComesNext, FaultComesTo, FaultFits, Feed, GivesEvent, GivesFault, GivesNone, PassesLines, RefusesLineWithin, answers, answers_from, ends_feed, is_stopped, moment_after, no_line, refusal, text_reading}
+use Rattle.event_feed.specs.claims.Fault.{stop_fault}
+use Rattle.event_feed.specs.claims.Feed.{Answer, AreFromLine, AreGiven, AreGivenBy, ComesNext, FaultFits, Feed, GivesEvent, GivesFault, GivesNone, RefusesLineWithin, answers, ends_feed, is_stopped, moment_after, no_line, refusal, text_reading}
+use Rattle.event_feed.specs.Feed.{AnswersNext, AnswersNone, FaultComesTo, PassesLines, answers_from}
 use Rattle.event_feed.specs.FeedLaws.{event_passes, fault_last, fault_next, fault_passes, known_weaker, none_given}
 use Rattle.text_lines.specs.declared.line_reader.Stop.{Stop}
 use Rattle.text_lines.specs.declared.line_reader.Stop.TheVariants.{InputEnded, CutLine, ReaderFailed, TooManyCalls, TooManyBytes, TooManyLines}
-use Rattle.text_lines.specs.Lines.{Known, is_newline, pieces}
+use Rattle.text_lines.specs.claims.Lines.{Known, is_newline, pieces}
 use Rattle.lemmas.proofs.Lists.{HasFirst, slice_split-first}
 use Rattle.paired_feed.specs.declared.paired.PairedLine.{PairedLine}
 use Rattle.paired_feed.specs.Paired.{EndsPair, GivesPair, is_cut, other_reading, since}

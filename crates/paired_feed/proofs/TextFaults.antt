@@ -3,7 +3,7 @@ use Rattle.std.proofs.Common.{◌≡◌, ℕ, true, false, not, cond, codes, ltb
 use Rattle.std.specs.Option.{ok_or}
 use Rattle.std.specs.Str.{bytes_eq, is_utf8}
 use Rattle.std.proofs.lemmas.Bool.{cond_both, true≢false}
-use Rattle.due_model.specs.Objects.{object_named}
+use Rattle.due_model.specs.claims.Objects.{object_named}
 use Rattle.due_model.specs.declared.config.Object.{Object}
 use Rattle.due_model.specs.declared.config.ObjectId.{ObjectId}
 use Rattle.due_model.specs.declared.event.Event.{Event}
@@ -11,8 +11,8 @@ use Rattle.due_model.specs.declared.event.EventKind.{EventKind}
 use Rattle.due_model.specs.declared.event.EventKind.TheVariants.{Clock, Program}
 use Rattle.event_feed.specs.declared.fault.FeedFault.{FeedFault}
 use Rattle.event_feed.specs.declared.fault.FeedFault.TheVariants.{BadStamp, UnknownKind, UnknownObject, BadState, LineTooLong, NotUtf8, Ahead, Cut, Read, NoMemory, Ended}
-use Rattle.event_feed.specs.Feed.{ends_feed, raised, text_reading}
-use Rattle.event_feed.specs.Line.{arguments_reading, bare_reading, command_named, command_of, command_reading, fields, last_reading, line_reading, all_said, are_so_many, said_reading, stamp_of, stamp_reading, stamped}
+use Rattle.event_feed.specs.claims.Feed.{ends_feed, raised, text_reading}
+use Rattle.event_feed.specs.claims.Line.{arguments_reading, bare_reading, command_named, command_of, command_reading, fields, last_reading, line_reading, all_said, are_so_many, said_reading, stamp_of, stamp_reading, stamped}
 use Rattle.text_lines.specs.LineReader.{line_limit}
 
 -- whether a fault is of what a line says

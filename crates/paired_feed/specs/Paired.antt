@@ -6,7 +6,8 @@ use Rattle.due_model.specs.declared.event.Event.{Event}
 use Rattle.event_feed.specs.declared.fault.FeedFault.{FeedFault}
 use Rattle.event_feed.specs.declared.fault.FeedFault.TheVariants.{LineTooLong}
 use Rattle.event_feed.specs.declared.fault.RefusedLine.{RefusedLine}
-use Rattle.event_feed.specs.Feed.{Answer, AnswersNext, AreGivenBy, Feed, PassesLines, ends_feed, refusal, text_reading}
+use Rattle.event_feed.specs.claims.Feed.{Answer, AreGivenBy, Feed, ends_feed, refusal, text_reading}
+use Rattle.event_feed.specs.Feed.{AnswersNext, PassesLines}
 use Rattle.text_lines.specs.declared.line_reader.Stop.{Stop}
 use Rattle.text_lines.specs.declared.line_reader.Stop.TheVariants.{InputEnded}
 use Rattle.paired_feed.specs.declared.paired.PairedLine.{PairedLine}

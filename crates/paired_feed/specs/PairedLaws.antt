@@ -3,8 +3,9 @@ use Rattle.std.proofs.Common.{◌≡◌, ℕ, ◌+◌, cond, eqb, List, [], ◌�
 use Rattle.std.specs.Prelude.{is_some}
 use Rattle.due_model.specs.declared.config.Object.{Object}
 use Rattle.event_feed.specs.declared.fault.FeedFault.TheVariants.{Read}
-use Rattle.event_feed.specs.Feed.{Answer, AreGiven, AreGivenBy, Feed, answers, answers_from, is_stopped, moment_after, text_reading}
-use Rattle.text_lines.specs.Lines.{pieces}
+use Rattle.event_feed.specs.claims.Feed.{Answer, AreGiven, AreGivenBy, Feed, answers, is_stopped, moment_after, text_reading}
+use Rattle.event_feed.specs.Feed.{answers_from}
+use Rattle.text_lines.specs.claims.Lines.{pieces}
 use Rattle.paired_feed.specs.Paired.{since}
 
 -- the lines of answers

@@ -1,11 +1,12 @@
 //! A feed that is read once for two configurations.
 
 ghost use Rattle.std.specs.Prelude.{◌≡◌, ◌+◌, ◌≤◌, IfNone, IfOk, IfSome, None};
-ghost use Rattle.due_model.specs.Limits.{last_moment};
-ghost use Rattle.due_model.specs.Proper.{IsProper};
-ghost use Rattle.event_feed.specs.Feed.{feed_limit, feed_of, moment_after, text_reading};
+ghost use Rattle.due_model.specs.claims.Limits.{last_moment};
+ghost use Rattle.due_model.specs.claims.Proper.{IsProper};
+ghost use Rattle.event_feed.specs.claims.Feed.{feed_limit, moment_after, text_reading};
+ghost use Rattle.event_feed.specs.Feed.{feed_of};
 ghost use Rattle.paired_feed.specs.Paired.{EndsPair, GivesPair, is_too_long, other_reading, since};
-ghost use Rattle.text_lines.specs.Lines.{has_line};
+ghost use Rattle.text_lines.specs.claims.Lines.{has_line};
 
 use due_model::config::Config;
 use due_model::event::Event;

@@ -2,7 +2,7 @@
 use Rattle.std.specs.Prelude.{ℕ, ◌-◌, Bool, true, false, not, ◌&&◌, max, min, List, [], ◌∷◌, ◌++◌, codes, filter, fold, length, nat_le, nat_lt, replicate}
 use Rattle.std.specs.List.{range_with_len}
 use Rattle.due_model.specs.declared.config.Config.{Config}
-use Rattle.notice_text.specs.Texts.{contact_text, object_text}
+use Rattle.notice_text.specs.claims.Texts.{contact_text, object_text}
 use Rattle.pretty_lines.specs.declared.columns.Widths.{Widths}
 
 -- ---- widths, in characters

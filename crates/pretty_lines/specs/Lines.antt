@@ -10,11 +10,11 @@ use Rattle.due_model.specs.declared.state.State.{State}
 use Rattle.due_model.specs.declared.zone.Zone.{Zone}
 use Rattle.event_feed.specs.declared.fault.FeedFault.{FeedFault}
 use Rattle.event_feed.specs.declared.fault.RefusedLine.{RefusedLine}
-use Rattle.event_feed.specs.Fault.{fault_name}
+use Rattle.event_feed.specs.claims.Fault.{fault_name}
 use Rattle.local_text.specs.Text.{iso_text}
 use Rattle.messages.specs.declared.entries.Entry.TheVariants.{Sent, Withheld}
-use Rattle.notice_text.specs.Names.{filter_name, kind_name, state_name}
-use Rattle.notice_text.specs.Texts.{contact_text, lane_text, number_text, object_text}
+use Rattle.notice_text.specs.claims.Names.{filter_name, kind_name, state_name}
+use Rattle.notice_text.specs.claims.Texts.{contact_text, lane_text, number_text, object_text}
 use Rattle.line_forms.specs.declared.report_line.ReportLine.{ReportLine}
 use Rattle.line_forms.specs.declared.report_line.ReportLine.TheVariants.{Decided, Refused}
 use Rattle.pretty_lines.specs.declared.columns.Look.{Look}

@@ -1,7 +1,7 @@
 //! Columns: names that are filled up with blanks, and colours.
 
 ghost use Rattle.std.specs.Prelude.{◌≡◌, ◌-◌, ◌≤◌, ◌++◌, filter, length, max, replicate, unwrap_or, IfOk, OnOk};
-ghost use Rattle.notice_text.specs.Texts.{contact_text, object_text};
+ghost use Rattle.notice_text.specs.claims.Texts.{contact_text, object_text};
 ghost use Rattle.pretty_lines.specs.Columns.{begins_character, characters, padded, paint, unpaint};
 ghost use Rattle.pretty_lines.specs.Columns.{widest, widths_of};
 

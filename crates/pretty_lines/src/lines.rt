@@ -1,7 +1,7 @@
 //! A line of a report for people.
 
 ghost use Rattle.std.specs.Prelude.{◌≡◌, ◌++◌, decimal, OnOk};
-ghost use Rattle.notice_text.specs.Texts.{number_text};
+ghost use Rattle.notice_text.specs.claims.Texts.{number_text};
 ghost use Rattle.pretty_lines.specs.Columns.{padded};
 ghost use Rattle.pretty_lines.specs.Lines.{condition_text, contact_columns, fault_end, fault_front};
 ghost use Rattle.pretty_lines.specs.Lines.{fault_text, kind_colour, line_end, line_front, line_text};

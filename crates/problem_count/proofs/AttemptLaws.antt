@@ -18,13 +18,14 @@ use Rattle.due_model.specs.declared.rules.ObjectStatus.{ObjectStatus}
 use Rattle.due_model.specs.declared.rules.View.{View}
 use Rattle.due_model.specs.declared.state.State.{State}
 use Rattle.due_model.specs.declared.zone.Zone.{Zone}
-use Rattle.due_model.specs.Readings.{is_ok_state, is_problem_of, is_problem_state, depth_changed, moment, hard, hard_after, begins}
-use Rattle.due_model.specs.Changes.{delayed}
+use Rattle.due_model.specs.claims.Readings.{is_ok_state, is_problem_of, is_problem_state, depth_changed, moment, hard, hard_after, begins}
+use Rattle.due_model.specs.claims.Changes.{delayed}
 use Rattle.due_model.specs.declared.notice.Reach.{Reach}
-use Rattle.due_model.specs.Rules.{attempted, attempted_by_flapping, downtime_kind, failing, has_come, is_problem, same_state}
-use Rattle.due_model.specs.Histories.{gap_of, hist, notice_of, notices_sent, number_after, of_problem, outcome_of, reach_of, is_service_of, ready, ready_or, repeats, status_after, timed, view, with_repeat}
-use Rattle.problem_count.specs.Book.{BookValues}
-use Rattle.problem_count.specs.Fits.{ended_in, outcome_at, problem, problem_before, released_after}
+use Rattle.due_model.specs.claims.Rules.{attempted, attempted_by_flapping, downtime_kind, failing, has_come, is_problem, same_state}
+use Rattle.due_model.specs.claims.Histories.{gap_of, hist, notice_of, notices_sent, number_after, of_problem, outcome_of, reach_of, is_service_of, ready, ready_or, repeats, status_after, timed, view, with_repeat}
+use Rattle.problem_count.specs.claims.Book.{BookValues}
+use Rattle.problem_count.specs.claims.Fits.{problem, released_after}
+use Rattle.problem_count.specs.Fits.{ended_in, outcome_at, problem_before}
 use Rattle.problem_count.specs.Laws.{is_of_problem_attempt, OutcomesAreByDue, ClockAttemptsByDue, ProblemsRun, RepeatsRun, CountsAreFew, CountsWithinAreFew}
 
 -- whether what is attempted is a problem

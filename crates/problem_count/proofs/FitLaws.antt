@@ -16,16 +16,18 @@ use Rattle.due_model.specs.declared.rules.Last.{Last}
 use Rattle.due_model.specs.declared.rules.ObjectStatus.{ObjectStatus}
 use Rattle.due_model.specs.declared.state.State.{State}
 use Rattle.due_model.specs.declared.zone.Zone.{Zone}
-use Rattle.due_model.specs.Readings.{is_problem_of, is_problem_state, moment, hard}
-use Rattle.due_model.specs.Changes.{delayed}
+use Rattle.due_model.specs.claims.Readings.{is_problem_of, is_problem_state, moment, hard}
+use Rattle.due_model.specs.claims.Changes.{delayed}
 use Rattle.due_model.specs.declared.config.Choices.{Choices}
 use Rattle.due_model.specs.declared.notice.Reach.{Reach}
 use Rattle.due_model.specs.declared.options.OptionLetters.{OptionLetters}
-use Rattle.due_model.specs.Rules.{attempted, attempted_by_ack, attempted_by_downtime, attempted_by_flapping, attempted_by_state, has_come, is_problem, next_notice, no_letter, same_state, state_letter, state_number, with_letter}
-use Rattle.due_model.specs.Histories.{down_with_host, host_holds, lapses, outcome_of, repeats, status_after, waits_a_while, with_repeat, hist, notice_of, notices_sent, last_notice, ready, ready_or, released_by, retry_after, timed, told_letters}
-use Rattle.due_model.specs.Acknowledgements.{acked, takes_back}
-use Rattle.problem_count.specs.Book.{BookValues, after_hard, after_release, after_sent, new_book, retry_by}
-use Rattle.problem_count.specs.Fits.{BookFitsLapsed, BookFitsWithin, FitsNothing, HardFits, LapseFits, SentFits, SuppressedFits, UnheardFits, ReleaseFits, IsNextMoment, book_of, book_within, due_by, released_after, released_in, ended_after, ended_in, lapsed_in, lapses_at, outcome_at, problem, problem_before}
+use Rattle.due_model.specs.claims.Rules.{attempted, attempted_by_ack, attempted_by_downtime, attempted_by_flapping, attempted_by_state, has_come, is_problem, next_notice, no_letter, same_state, state_letter, state_number, with_letter}
+use Rattle.due_model.specs.claims.Histories.{down_with_host, host_holds, lapses, outcome_of, repeats, status_after, waits_a_while, with_repeat, hist, notice_of, notices_sent, last_notice, ready, ready_or, released_by, retry_after, timed, told_letters}
+use Rattle.due_model.specs.claims.Acknowledgements.{acked, takes_back}
+use Rattle.problem_count.specs.claims.Book.{BookValues, new_book}
+use Rattle.problem_count.specs.Book.{after_hard, after_release, after_sent, retry_by}
+use Rattle.problem_count.specs.claims.Fits.{book_of, due_by, released_after, ended_after, problem}
+use Rattle.problem_count.specs.Fits.{BookFitsLapsed, BookFitsWithin, FitsNothing, HardFits, LapseFits, SentFits, SuppressedFits, UnheardFits, ReleaseFits, IsNextMoment, book_within, released_in, ended_in, lapsed_in, lapses_at, outcome_at, problem_before}
 use Rattle.problem_count.specs.Laws.{is_hard_of, is_of_problem_attempt, OtherEventsFit, OtherOutcomesFit, UntouchedFit, touches}
 use Rattle.problem_count.proofs.AttemptLaws.{outcomes_are_by_due, problem_is_attempted, sent_state}
 

@@ -13,16 +13,13 @@ use Rattle.due_model.specs.declared.notice.Outcome.{Outcome}
 use Rattle.due_model.specs.declared.notice.Outcome.TheVariants.{Sent, Suppressed}
 use Rattle.due_model.specs.declared.state.State.{State}
 use Rattle.due_model.specs.declared.zone.Zone.{Zone}
-use Rattle.due_model.specs.Periods.{next_in}
-use Rattle.due_model.specs.Readings.{hard, is_problem_of, is_problem_state, moment}
-use Rattle.due_model.specs.Changes.{delayed}
-use Rattle.due_model.specs.Histories.{before, down_with_host, ended, ended_at, hist, host_holds, lapses, waits_a_while, last_notice, notices_sent, of_problem, outcome, ready, ready_or, released, released_by, told_letters}
-use Rattle.due_model.specs.Acknowledgements.{takes_back}
-use Rattle.problem_count.specs.Book.{BookValues}
-
--- the outcomes of the object's last problem, the newest first
-abbrev pub problem : Config → Zone → ℕ → Object → List Event → List Outcome
-problem c zone o object past = of_problem o past (hist c zone o object past)
+use Rattle.due_model.specs.claims.Periods.{next_in}
+use Rattle.due_model.specs.claims.Readings.{hard, is_problem_of, is_problem_state, moment}
+use Rattle.due_model.specs.claims.Changes.{delayed}
+use Rattle.due_model.specs.claims.Histories.{before, down_with_host, ended, ended_at, hist, host_holds, lapses, waits_a_while, last_notice, notices_sent, outcome, ready, ready_or, released_by, told_letters}
+use Rattle.due_model.specs.claims.Acknowledgements.{takes_back}
+use Rattle.problem_count.specs.claims.Book.{BookValues}
+use Rattle.problem_count.specs.claims.Fits.{problem, due_by, released_after, BookFits}
 
 -- the outcomes of the problem that runs at an event, or ends there, from before that event
 abbrev pub problem_before : Config → Zone → ℕ → Object → Event → List Event → List Outcome
@@ -32,25 +29,10 @@ problem_before c zone o object e past = before o e past (hist c zone o object pa
 abbrev pub outcome_at : Config → Zone → ℕ → Object → Event → List Event → Outcome
 outcome_at c zone o object e past = outcome c zone o object e past (hist c zone o object past)
 
--- Ready, of an object in this state whose first delay runs since that moment and whose last problem had these outcomes,
--- where an acknowledgement was taken back since or wasn't; never, where no problem runs
-abbrev pub due_by : Config → Zone → Object → State → (began : ℕ) → (released : Option ℕ)
-    → List Outcome → Option ℕ
-due_by c zone object s began released outcomes =
-    if is_problem_state s then ready_or released (ready c zone object began outcomes) else None
-
--- when an acknowledgement was taken back, with no attempt as a problem since
-abbrev pub released_after : Config → Zone → ℕ → Object → List Event → Option ℕ
-released_after c zone o object past = released o past (hist c zone o object past)
-
 -- likewise, within an event
 abbrev pub released_in : Config → Zone → ℕ → Object → Event → List Event → Option ℕ
 released_in c zone o object e past =
     released_by false (takes_back o e past) (moment (e ∷ past)) (released_after c zone o object past)
-
--- whether the wait after the last notice was ended since
-abbrev pub ended_after : Config → Zone → ℕ → Object → List Event → Bool
-ended_after c zone o object past = ended c zone o object past (hist c zone o object past)
 
 -- likewise, within an event
 abbrev pub ended_in : Config → Zone → ℕ → Object → Event → List Event → Bool
@@ -69,19 +51,6 @@ lapsed_in c zone o object e past =
     || (lapses_at c zone o object e past
     && waits_a_while (last_notice (problem_before c zone o object e past)))
 
--- the book of object o after a past
-abbrev pub book_of : Config → Zone → ℕ → Object → List Event → BookValues
-book_of c zone o object past = record {
-  state = hard o past;
-  began = delayed c o past;
-  sent = notices_sent (problem c zone o object past);
-  last = last_notice (problem c zone o object past);
-  told = told_letters (problem c zone o object past);
-  ended = ended_after c zone o object past;
-  due = due_by c zone object (hard o past) (delayed c o past) (released_after c zone o object past)
-      (problem c zone o object past);
-}
-
 -- the book within an event, before what becomes of it: with nothing due, where the event is a hard problem state
 abbrev pub book_within : Config → Zone → ℕ → Object → Event → List Event → BookValues
 book_within c zone o object e past = record {
@@ -97,10 +66,6 @@ book_within c zone o object e past = record {
       (released_in c zone o object e past)
       (problem_before c zone o object e past);
 }
-
--- Fits: each value that is kept is the definitions' after this past.
-abbrev pub BookFits : Config → Zone → ℕ → Object → List Event → BookValues → Type 0
-BookFits c zone o object past book = book ≡ book_of c zone o object past
 
 -- likewise, within an event
 abbrev pub BookFitsWithin : Config → Zone → ℕ → Object → Event → List Event → BookValues → Type 0

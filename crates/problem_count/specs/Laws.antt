@@ -9,14 +9,15 @@ use Rattle.due_model.specs.declared.notice.Kind.TheVariants.{Problem}
 use Rattle.due_model.specs.declared.notice.Outcome.TheVariants.{Nothing}
 use Rattle.due_model.specs.declared.rules.ObjectStatus.{ObjectStatus}
 use Rattle.due_model.specs.declared.zone.Zone.{Zone}
-pub use Rattle.due_model.specs.Readings.{is_hard_of}
-use Rattle.due_model.specs.Readings.{hard, hard_after, is_problem_state, moment}
-use Rattle.due_model.specs.Acknowledgements.{takes_back}
-use Rattle.due_model.specs.Rules.{attempted, has_come}
-pub use Rattle.due_model.specs.Histories.{is_of_problem_attempt}
-use Rattle.due_model.specs.Histories.{outcome_of, repeats, status_after, timed, with_repeat}
-use Rattle.problem_count.specs.Book.{BookValues}
-use Rattle.problem_count.specs.Fits.{BookFits, BookFitsLapsed, BookFitsWithin, ended_in, outcome_at, problem_before}
+pub use Rattle.due_model.specs.claims.Readings.{is_hard_of}
+use Rattle.due_model.specs.claims.Readings.{hard, hard_after, is_problem_state, moment}
+use Rattle.due_model.specs.claims.Acknowledgements.{takes_back}
+use Rattle.due_model.specs.claims.Rules.{attempted, has_come}
+pub use Rattle.due_model.specs.claims.Histories.{is_of_problem_attempt}
+use Rattle.due_model.specs.claims.Histories.{outcome_of, repeats, status_after, timed, with_repeat}
+use Rattle.problem_count.specs.claims.Book.{BookValues}
+use Rattle.problem_count.specs.claims.Fits.{BookFits}
+use Rattle.problem_count.specs.Fits.{BookFitsLapsed, BookFitsWithin, ended_in, outcome_at, problem_before}
 
 -- within an event that gives the object no hard state and takes no acknowledgement back a book still fits
 abbrev pub OtherEventsFit : Type 0

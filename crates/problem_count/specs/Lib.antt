@@ -1,3 +1,4 @@
+pub mod claims
 pub mod Book
 pub mod Fits
 pub mod Laws

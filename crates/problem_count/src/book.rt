@@ -2,13 +2,14 @@
 
 ghost use Rattle.std.specs.Prelude.{◌≡◌, ◌+◌, ◌^◌, ◌<◌, ◌≤◌, ◌&&◌, ◌||◌, true, None, Some};
 ghost use Rattle.std.specs.Prelude.{if◌then◌else◌};
-ghost use Rattle.due_model.specs.Limits.{last_moment};
-ghost use Rattle.due_model.specs.Readings.{is_problem_state};
-ghost use Rattle.problem_count.specs.Book.{longest_gap, LastIsInRange, new_book};
+ghost use Rattle.due_model.specs.claims.Limits.{last_moment};
+ghost use Rattle.due_model.specs.claims.Readings.{is_problem_state};
+ghost use Rattle.problem_count.specs.claims.Book.{new_book};
+ghost use Rattle.problem_count.specs.Book.{longest_gap, LastIsInRange};
 ghost use Rattle.problem_count.specs.Book.{after_hard, after_release, after_sent, begins_problem, delayed_from};
 ghost use Rattle.problem_count.specs.Book.{delays_by, emptied, is_change, number_of, retry_by, stated};
 ghost use Rattle.problem_count.specs.Fits.{FitsNothing, HardFits, SentFits, LapseFits, SuppressedFits, UnheardFits};
-ghost use Rattle.due_model.specs.Histories.{waits_a_while};
+ghost use Rattle.due_model.specs.claims.Histories.{waits_a_while};
 ghost use Rattle.problem_count.specs.Fits.{DueIsReady, NumberIsNext, ReleaseFits};
 
 use due_model::config::Choices;
@@ -42,8 +43,9 @@ pub struct Book {
 
 impl Model for Book {
     ghost use Rattle.std.specs.Prelude.{◌+◌, ◌^◌, ◌<◌, ◌≤◌};
-    ghost use Rattle.due_model.specs.Limits.{last_moment};
-    ghost use Rattle.problem_count.specs.Book.{BookValues, LastIsInRange};
+    ghost use Rattle.due_model.specs.claims.Limits.{last_moment};
+    ghost use Rattle.problem_count.specs.claims.Book.{BookValues};
+    ghost use Rattle.problem_count.specs.Book.{LastIsInRange};
 
     ghost Value = { BookValues };
 

@@ -8,17 +8,19 @@ use Rattle.due_model.specs.declared.event.Event.{Event}
 use Rattle.due_model.specs.declared.zone.Zone.{Zone}
 use Rattle.event_feed.specs.declared.fault.FeedFault.TheVariants.{Ended}
 use Rattle.event_feed.specs.declared.fault.RefusedLine.{RefusedLine}
-use Rattle.event_feed.specs.Feed.{Answer, AreGiven, AreGivenBy, refusal, Feed, GivesEvent, GivesFault, answers_from, ends_feed}
-use Rattle.text_lines.specs.Lines.{pieces}
+use Rattle.event_feed.specs.claims.Feed.{Answer, AreGiven, AreGivenBy, refusal, Feed, GivesEvent, GivesFault, ends_feed}
+use Rattle.event_feed.specs.Feed.{answers_from}
+use Rattle.text_lines.specs.claims.Lines.{pieces}
 use Rattle.command_output.specs.declared.outcome.Ending.TheVariants.{Short, Whole}
-use Rattle.command_output.specs.ReportLine.{refused_line}
-use Rattle.replay.specs.Report.{WritesPart, Ends, Follows, GoesOn, TakesAnswer, WritesReport, WritesReportFront, answer_text, ending_after, ends_short, given_text, is_ended, past_after, report_from, report_text}
+use Rattle.command_output.specs.claims.ReportLine.{refused_line}
+use Rattle.replay.specs.claims.Report.{answer_text, ending_after, ends_short, given_text, is_ended, past_after, report_from, report_text}
+use Rattle.replay.specs.Report.{WritesPart, Ends, Follows, GoesOn, TakesAnswer, WritesReport, WritesReportFront}
 use Rattle.messages.specs.declared.entries.Entry.{Entry}
-use Rattle.messages.specs.Entries.{event_entries}
-use Rattle.decider.specs.Fits.{Fits, Kept}
+use Rattle.messages.specs.claims.Entries.{event_entries}
+use Rattle.decider.specs.claims.Fits.{Fits, Kept}
 use Rattle.command_output.specs.declared.outcome.Ending.{Ending}
-use Rattle.written.specs.Written.{Leaves, Writes, WritesFront}
-use Rattle.command_output.specs.OutputLine.{entries_text}
+use Rattle.written.specs.claims.Written.{Leaves, Writes, WritesFront}
+use Rattle.command_output.specs.claims.OutputLine.{entries_text}
 use Rattle.written.specs.WrittenLaws.{front_less, front_longer, front_on, leaves_all, leaves_less, leaves_on}
 use Rattle.event_feed.specs.FeedLaws.{known_same, known_then, Passed, passed_more, event_passes, fault_passes, fault_next, event_answers, earlier_more, then_by}
 

@@ -1,2 +1,3 @@
+pub mod claims
 pub mod Replay
 pub mod Report

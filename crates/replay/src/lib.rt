@@ -2,7 +2,8 @@
 #![tactic(auto)]
 
 ghost use Rattle.std.specs.Prelude.{◌≡◌, false, IfErr, IfOk, IfSome, IsErrOf};
-ghost use Rattle.replay.specs.Replay.{FailsOf, FailsWith, Reports, ReportsOf};
+ghost use Rattle.replay.specs.claims.Replay.{FailsOf, ReportsOf};
+ghost use Rattle.replay.specs.Replay.{FailsWith, Reports};
 ghost use Rattle.due_model.specs.declared.zone.Zone.{Zone};
 ghost use Rattle.due_model.specs.Choices.{own};
 

@@ -4,11 +4,11 @@ use Rattle.std.proofs.lemmas.List.{append-nil}
 use Rattle.due_model.specs.declared.config.Config.{Config}
 use Rattle.due_model.specs.declared.event.Event.{Event}
 use Rattle.due_model.specs.declared.zone.Zone.{Zone}
-use Rattle.event_feed.specs.Feed.{Answer, AreGivenBy, Feed}
+use Rattle.event_feed.specs.claims.Feed.{Answer, AreGivenBy, Feed}
 use Rattle.command_output.specs.declared.outcome.Ending.{Ending}
-use Rattle.decider.specs.Fits.{Fits, Kept}
-use Rattle.replay.specs.Report.{ending_after, past_after}
-use Rattle.written.specs.Written.{Leaves, Writes, WritesFront}
+use Rattle.decider.specs.claims.Fits.{Fits, Kept}
+use Rattle.replay.specs.claims.Report.{ending_after, past_after}
+use Rattle.written.specs.claims.Written.{Leaves, Writes, WritesFront}
 use Rattle.written.specs.WrittenLaws.{front_less, front_longer, leaves_all, leaves_less, leaves_longer}
 use Rattle.line_forms.specs.declared.report_line.ReportLine.{ReportLine}
 use Rattle.night_marks.specs.declared.night.Night.{Night}

@@ -4,13 +4,15 @@ use Rattle.std.proofs.lemmas.Result.{IfOk-weaker}
 use Rattle.due_model.specs.declared.config.Choices.{Choices}
 use Rattle.due_model.specs.declared.config.Config.{Config}
 use Rattle.due_model.specs.declared.zone.Zone.{Zone}
-use Rattle.event_feed.specs.Feed.{Answer, Feed, feed_of}
+use Rattle.event_feed.specs.claims.Feed.{Answer, Feed}
+use Rattle.event_feed.specs.Feed.{feed_of}
 use Rattle.text_lines.specs.LineReader.{Reading, to_come}
 use Rattle.command_output.specs.declared.outcome.CommandFault.{CommandFault}
 use Rattle.command_output.specs.declared.outcome.Ending.{Ending}
 use Rattle.command_input.specs.InputLaws.{input_read, of_input, some_known}
-use Rattle.command_input.specs.Objects.{GivesObjects, IsFileOf, IsTextBy, feed_in, objects_in}
-use Rattle.replay.specs.Replay.{AreOfFeed}
+use Rattle.command_input.specs.claims.Objects.{IsTextBy}
+use Rattle.command_input.specs.Objects.{GivesObjects, IsFileOf, feed_in, objects_in}
+use Rattle.replay.specs.claims.Replay.{AreOfFeed}
 use Rattle.report_telling.specs.Told.{Form}
 use Rattle.report_picture.specs.declared.drawing.Picture.{Picture}
 use Rattle.report_picture.specs.Draws.{Draws, DrawsOf}

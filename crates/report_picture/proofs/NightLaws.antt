@@ -12,11 +12,11 @@ use Rattle.due_model.specs.declared.event.EventKind.{EventKind}
 use Rattle.due_model.specs.declared.zone.Zone.{Zone}
 use Rattle.event_feed.specs.declared.fault.FeedFault.{FeedFault}
 use Rattle.event_feed.specs.declared.fault.FeedFault.TheVariants.{Ended}
-use Rattle.event_feed.specs.Feed.{Answer}
+use Rattle.event_feed.specs.claims.Feed.{Answer}
 use Rattle.line_forms.specs.declared.report_line.ReportLine.{ReportLine}
 use Rattle.line_forms.specs.declared.report_line.ReportLine.TheVariants.{Decided}
 use Rattle.messages.specs.declared.entries.Entry.{Entry}
-use Rattle.messages.specs.Entries.{event_entries}
+use Rattle.messages.specs.claims.Entries.{event_entries}
 use Rattle.night_marks.specs.declared.conditions.Change.{Change}
 use Rattle.night_marks.specs.declared.conditions.Condition.{Condition}
 use Rattle.night_marks.specs.declared.night.Night.{Night}
@@ -24,7 +24,7 @@ use Rattle.night_marks.specs.declared.night.Span.{Span}
 use Rattle.night_marks.specs.Conditions.{condition_after, condition_at, event_object, is_drawn}
 use Rattle.night_marks.specs.Kept.{AreFit, IsFitMark, KeepsThem, kept_change}
 use Rattle.night_marks.specs.Night.{change_of, changed, heard_event, nothing_heard, span_after, told_entries, told_entry}
-use Rattle.replay.specs.Report.{is_ended, past_after}
+use Rattle.replay.specs.claims.Report.{is_ended, past_after}
 use Rattle.report_telling.specs.Lines.{given_lines, lines_from, refusal_line}
 use Rattle.report_picture.specs.Nights.{IsFitAnswer, IsFitEvent, KeepsOf, KeepsTheReport, entries_in, entry_in, night_given, night_on}
 

@@ -3,13 +3,14 @@ use Rattle.std.specs.Prelude.{◌≡◌, ℕ, Bool, List, [], ◌++◌, Option}
 use Rattle.due_model.specs.declared.config.Config.{Config}
 use Rattle.due_model.specs.declared.event.Event.{Event}
 use Rattle.due_model.specs.declared.zone.Zone.{Zone}
-use Rattle.decider.specs.Fits.{Fits, Kept}
-use Rattle.event_feed.specs.Feed.{Answer, AreGivenBy, Feed}
+use Rattle.decider.specs.claims.Fits.{Fits, Kept}
+use Rattle.event_feed.specs.claims.Feed.{Answer, AreGivenBy, Feed}
 use Rattle.command_output.specs.declared.outcome.Ending.{Ending}
-use Rattle.written.specs.Written.{Writes}
+use Rattle.written.specs.claims.Written.{Writes}
 use Rattle.night_marks.specs.declared.night.Night.{Night}
 use Rattle.night_picture.specs.Picture.{left_out, picture_text}
-use Rattle.replay.specs.Report.{TakesAnswer, ending_after, past_after}
+use Rattle.replay.specs.claims.Report.{ending_after, past_after}
+use Rattle.replay.specs.Report.{TakesAnswer}
 use Rattle.report_telling.specs.Lines.{answer_lines, lines_from, report_lines}
 use Rattle.report_telling.specs.Told.{Form, after_all, told_all, told_report}
 use Rattle.report_picture.specs.declared.drawing.Picture.{Picture}

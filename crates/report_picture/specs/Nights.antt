@@ -5,18 +5,18 @@ use Rattle.due_model.specs.declared.config.ObjectId.{ObjectId}
 use Rattle.due_model.specs.declared.event.Event.{Event}
 use Rattle.due_model.specs.declared.zone.Zone.{Zone}
 use Rattle.event_feed.specs.declared.fault.FeedFault.{FeedFault}
-use Rattle.event_feed.specs.Feed.{Answer}
+use Rattle.event_feed.specs.claims.Feed.{Answer}
 use Rattle.line_forms.specs.declared.report_line.ReportLine.{ReportLine}
 use Rattle.line_forms.specs.declared.report_line.ReportLine.TheVariants.{Decided, Refused}
 use Rattle.messages.specs.declared.entries.Entry.{Entry}
-use Rattle.messages.specs.Entries.{event_entries}
+use Rattle.messages.specs.claims.Entries.{event_entries}
 use Rattle.night_marks.specs.declared.conditions.Change.{Change}
 use Rattle.night_marks.specs.declared.kept.Kept.{Kept}
 use Rattle.night_marks.specs.declared.night.Night.{Night}
 use Rattle.night_marks.specs.Conditions.{event_object}
 use Rattle.night_marks.specs.Kept.{IsFitMark, IsKept}
 use Rattle.night_marks.specs.Night.{heard_event, nothing_heard, told_entries}
-use Rattle.replay.specs.Report.{is_ended, past_after}
+use Rattle.replay.specs.claims.Report.{is_ended, past_after}
 use Rattle.report_telling.specs.Lines.{report_lines}
 
 -- what is kept after a line of the feed, after a past: its event is heard, and what became of its messages is

@@ -1,9 +1,9 @@
 //! What is held back of a report before a writer.
 
 ghost use Rattle.std.specs.Prelude.{◌≡◌, [], false, IfErr, OnOk};
-ghost use Rattle.command_output.specs.Outcome.{IsWriteFault};
-ghost use Rattle.text_lines.specs.Lines.{has_line};
-ghost use Rattle.written.specs.Written.{Leaves, WritesFront};
+ghost use Rattle.command_output.specs.claims.Outcome.{IsWriteFault};
+ghost use Rattle.text_lines.specs.claims.Lines.{has_line};
+ghost use Rattle.written.specs.claims.Written.{Leaves, WritesFront};
 
 use command_output::{CommandFault, Sink};
 use event_feed::Feeder;

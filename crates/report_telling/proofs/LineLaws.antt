@@ -7,12 +7,12 @@ use Rattle.due_model.specs.declared.event.Event.{Event}
 use Rattle.due_model.specs.declared.zone.Zone.{Zone}
 use Rattle.event_feed.specs.declared.fault.FeedFault.{FeedFault}
 use Rattle.event_feed.specs.declared.fault.FeedFault.TheVariants.{Ended}
-use Rattle.event_feed.specs.Feed.{Answer}
+use Rattle.event_feed.specs.claims.Feed.{Answer}
 use Rattle.messages.specs.declared.entries.Entry.{Entry}
-use Rattle.messages.specs.Entries.{event_entries}
-use Rattle.command_output.specs.OutputLine.{entries_text, entry_text}
-use Rattle.command_output.specs.ReportLine.{refused_line}
-use Rattle.replay.specs.Report.{answer_text, given_text, is_ended, past_after, report_from}
+use Rattle.messages.specs.claims.Entries.{event_entries}
+use Rattle.command_output.specs.claims.OutputLine.{entries_text, entry_text}
+use Rattle.command_output.specs.claims.ReportLine.{refused_line}
+use Rattle.replay.specs.claims.Report.{answer_text, given_text, is_ended, past_after, report_from}
 use Rattle.line_forms.specs.declared.report_line.ReportLine.{ReportLine}
 use Rattle.line_forms.specs.declared.report_line.ReportLine.TheVariants.{Decided}
 use Rattle.report_telling.specs.Lines.{LinesAreTheReport, answer_lines, given_lines, lines_from, refusal_line}

@@ -1,7 +1,7 @@
 -- Laws of what a teller writes.
 use Rattle.std.proofs.Common.{◌≡◌, ℕ, suc, ◌+◌, ◌<◌, List, [], ◌∷◌, ◌++◌, Option, arith, drop, drop-cons, get_or, length, map, refl, sym, ap, subst, ◌∙◌, append_assoc}
 use Rattle.std.proofs.lemmas.List.{append-nil}
-use Rattle.written.specs.Written.{Leaves, WritesFront}
+use Rattle.written.specs.claims.Written.{Leaves, WritesFront}
 use Rattle.written.specs.WrittenLaws.{front_begun, front_on, leaves_all, leaves_on}
 use Rattle.messages.specs.declared.entries.Entry.{Entry}
 use Rattle.line_forms.specs.declared.report_line.ReportLine.{ReportLine}

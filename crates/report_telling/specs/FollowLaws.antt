@@ -8,10 +8,12 @@ use Rattle.due_model.specs.declared.event.Event.{Event}
 use Rattle.due_model.specs.declared.zone.Zone.{Zone}
 use Rattle.event_feed.specs.declared.fault.FeedFault.TheVariants.{Ended}
 use Rattle.event_feed.specs.declared.fault.RefusedLine.{RefusedLine}
-use Rattle.event_feed.specs.Feed.{Answer, AreGiven, AreGivenBy, refusal, Feed, GivesEvent, GivesFault, answers_from, ends_feed}
-use Rattle.text_lines.specs.Lines.{pieces}
+use Rattle.event_feed.specs.claims.Feed.{Answer, AreGiven, AreGivenBy, refusal, Feed, GivesEvent, GivesFault, ends_feed}
+use Rattle.event_feed.specs.Feed.{answers_from}
+use Rattle.text_lines.specs.claims.Lines.{pieces}
 use Rattle.command_output.specs.declared.outcome.Ending.TheVariants.{Short, Whole}
-use Rattle.replay.specs.Report.{TakesAnswer, ending_after, ends_short, is_ended, past_after}
+use Rattle.replay.specs.claims.Report.{ending_after, ends_short, is_ended, past_after}
+use Rattle.replay.specs.Report.{TakesAnswer}
 use Rattle.event_feed.specs.FeedLaws.{known_same, known_then, Passed, passed_more, event_passes, fault_passes, fault_next, event_answers, earlier_more, then_by}
 use Rattle.line_forms.specs.declared.report_line.ReportLine.{ReportLine}
 use Rattle.report_telling.specs.Lines.{answer_lines, given_lines, lines_from, refusal_line, report_lines}

@@ -5,10 +5,10 @@ use Rattle.due_model.specs.declared.event.Event.{Event}
 use Rattle.due_model.specs.declared.zone.Zone.{Zone}
 use Rattle.event_feed.specs.declared.fault.FeedFault.{FeedFault}
 use Rattle.event_feed.specs.declared.fault.FeedFault.TheVariants.{Ended}
-use Rattle.event_feed.specs.Feed.{Answer}
-use Rattle.messages.specs.Entries.{event_entries}
+use Rattle.event_feed.specs.claims.Feed.{Answer}
+use Rattle.messages.specs.claims.Entries.{event_entries}
 use Rattle.line_forms.specs.Plain.{plain_text}
-use Rattle.replay.specs.Report.{is_ended, past_after, report_text}
+use Rattle.replay.specs.claims.Report.{is_ended, past_after, report_text}
 use Rattle.line_forms.specs.declared.report_line.ReportLine.{ReportLine}
 use Rattle.line_forms.specs.declared.report_line.ReportLine.TheVariants.{Decided, Refused}
 

@@ -3,12 +3,14 @@ use Rattle.std.specs.Prelude.{◌≡◌, ℕ, ◌≤◌, Bool, false, All, List,
 use Rattle.due_model.specs.declared.config.Config.{Config}
 use Rattle.due_model.specs.declared.event.Event.{Event}
 use Rattle.due_model.specs.declared.zone.Zone.{Zone}
-use Rattle.decider.specs.Fits.{Fits, Kept}
-use Rattle.event_feed.specs.Feed.{Answer, AreGivenBy, Feed, PassesLines, answers_from, ends_feed}
-use Rattle.text_lines.specs.Lines.{Known}
+use Rattle.decider.specs.claims.Fits.{Fits, Kept}
+use Rattle.event_feed.specs.claims.Feed.{Answer, AreGivenBy, Feed, ends_feed}
+use Rattle.event_feed.specs.Feed.{PassesLines, answers_from}
+use Rattle.text_lines.specs.claims.Lines.{Known}
 use Rattle.command_output.specs.declared.outcome.Ending.{Ending}
-use Rattle.written.specs.Written.{Leaves, Writes, WritesFront}
-use Rattle.replay.specs.Report.{TakesAnswer, ending_after, past_after}
+use Rattle.written.specs.claims.Written.{Leaves, Writes, WritesFront}
+use Rattle.replay.specs.claims.Report.{ending_after, past_after}
+use Rattle.replay.specs.Report.{TakesAnswer}
 use Rattle.line_forms.specs.declared.report_line.ReportLine.{ReportLine}
 use Rattle.report_telling.specs.Lines.{answer_lines, lines_from, report_lines}
 use Rattle.report_telling.specs.Told.{Form, after_all, told_all, told_report}

@@ -3,13 +3,14 @@ use Rattle.std.specs.Prelude.{◌≡◌, ℕ, Bool, List, [], Option}
 use Rattle.due_model.specs.declared.config.Choices.{Choices}
 use Rattle.due_model.specs.declared.config.Config.{Config}
 use Rattle.due_model.specs.declared.zone.Zone.{Zone}
-use Rattle.event_feed.specs.Feed.{Answer}
+use Rattle.event_feed.specs.claims.Feed.{Answer}
 use Rattle.command_output.specs.declared.outcome.CommandFault.{CommandFault}
 use Rattle.command_output.specs.declared.outcome.Ending.{Ending}
-use Rattle.written.specs.Written.{Writes, WritesFront}
-use Rattle.command_input.specs.Objects.{CommandFails, IsTextBy, feed_in, objects_in}
-use Rattle.replay.specs.Replay.{AreOfFeed}
-use Rattle.replay.specs.Report.{ending_after}
+use Rattle.written.specs.claims.Written.{Writes, WritesFront}
+use Rattle.command_input.specs.claims.Objects.{CommandFails, IsTextBy}
+use Rattle.command_input.specs.Objects.{feed_in, objects_in}
+use Rattle.replay.specs.claims.Replay.{AreOfFeed}
+use Rattle.replay.specs.claims.Report.{ending_after}
 use Rattle.report_telling.specs.Lines.{report_lines}
 use Rattle.report_telling.specs.Told.{Form, told_report}
 

@@ -4,17 +4,19 @@ use Rattle.std.proofs.lemmas.Result.{IfOk-weaker}
 use Rattle.due_model.specs.declared.config.Choices.{Choices}
 use Rattle.due_model.specs.declared.config.Config.{Config}
 use Rattle.due_model.specs.declared.zone.Zone.{Zone}
-use Rattle.event_feed.specs.Feed.{Answer, Feed, answers, feed_of}
-use Rattle.text_lines.specs.Lines.{pieces}
+use Rattle.event_feed.specs.claims.Feed.{Answer, Feed, answers}
+use Rattle.event_feed.specs.Feed.{feed_of}
+use Rattle.text_lines.specs.claims.Lines.{pieces}
 use Rattle.written.specs.WrittenLaws.{front_none}
 use Rattle.lemmas.proofs.Results.{on_err_always}
 use Rattle.text_lines.specs.LineReader.{Reading, to_come}
 use Rattle.command_output.specs.declared.outcome.CommandFault.{CommandFault}
 use Rattle.command_output.specs.declared.outcome.Ending.{Ending}
-use Rattle.command_output.specs.Outcome.{IsWriteFault}
+use Rattle.command_output.specs.claims.Outcome.{IsWriteFault}
 use Rattle.command_input.specs.InputLaws.{input_read, of_input, some_all, some_known, text_failed, writing_failed}
-use Rattle.command_input.specs.Objects.{FileFails, GivesObjects, IsFileOf, IsTextBy, feed_in, objects_in}
-use Rattle.replay.specs.Replay.{AreOfFeed}
+use Rattle.command_input.specs.claims.Objects.{IsTextBy}
+use Rattle.command_input.specs.Objects.{FileFails, GivesObjects, IsFileOf, feed_in, objects_in}
+use Rattle.replay.specs.claims.Replay.{AreOfFeed}
 use Rattle.report_telling.specs.Told.{Form}
 use Rattle.report_telling.specs.Tells.{FailsOf, FailsWith, Tells, TellsFor, TellsFrontFor, TellsFrontOf, TellsOf}
 use Rattle.report_telling.specs.Telling.{TellsFeed, TellsFeedFront}

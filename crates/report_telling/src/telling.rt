@@ -3,18 +3,20 @@
 ghost use Rattle.std.specs.Prelude.{◌≡◌, ◌+◌, ◌≤◌, ◌∷◌, [], List};
 ghost use Rattle.std.specs.Prelude.{filter, length, false, true, IfErr, IfNone, IfOk, IfSome, None};
 ghost use Rattle.std.specs.Prelude.{◌++◌, Ok, OnOk};
-ghost use Rattle.command_output.specs.Outcome.{IsWriteFault};
-ghost use Rattle.written.specs.Written.{Leaves, WritesFront};
-ghost use Rattle.decider.specs.Fits.{Fits, core_kept, settings};
-ghost use Rattle.due_model.specs.Accepted.{IsAccepted};
-ghost use Rattle.due_model.specs.Proper.{IsProper};
+ghost use Rattle.command_output.specs.claims.Outcome.{IsWriteFault};
+ghost use Rattle.written.specs.claims.Written.{Leaves, WritesFront};
+ghost use Rattle.decider.specs.claims.Fits.{Fits, core_kept, settings};
+ghost use Rattle.due_model.specs.claims.Accepted.{IsAccepted};
+ghost use Rattle.due_model.specs.claims.Proper.{IsProper};
 ghost use Rattle.due_model.specs.declared.event.Event.{Event};
-ghost use Rattle.event_feed.specs.Feed.{feed_limit, feed_of};
-ghost use Rattle.replay.specs.Report.{is_ended, is_sent, whole_share};
+ghost use Rattle.event_feed.specs.claims.Feed.{feed_limit};
+ghost use Rattle.event_feed.specs.Feed.{feed_of};
+ghost use Rattle.replay.specs.claims.Report.{is_ended};
+ghost use Rattle.replay.specs.Report.{is_sent, whole_share};
 ghost use Rattle.report_telling.specs.Lines.{answer_lines, given_lines, refusal_line};
 ghost use Rattle.report_telling.specs.Telling.{Ends, GoesOn, TellsPart, TellsFeed, TellsFeedFront};
 ghost use Rattle.report_telling.specs.Told.{after_all, form_of, told_all, told_report};
-ghost use Rattle.text_lines.specs.Lines.{has_line};
+ghost use Rattle.text_lines.specs.claims.Lines.{has_line};
 
 use crate::tellers::Teller;
 use crate::told_lines::ToldLines;

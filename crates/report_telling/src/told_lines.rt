@@ -1,8 +1,8 @@
 //! What a teller writes, on its way to the writer.
 
 ghost use Rattle.std.specs.Prelude.{◌≡◌, [], ◌∷◌, ◌++◌, map, IfErr, IfOk, OnOk};
-ghost use Rattle.command_output.specs.Outcome.{IsWriteFault};
-ghost use Rattle.written.specs.Written.{Leaves, WritesFront};
+ghost use Rattle.command_output.specs.claims.Outcome.{IsWriteFault};
+ghost use Rattle.written.specs.claims.Written.{Leaves, WritesFront};
 ghost use Rattle.report_telling.specs.Told.{after_all, form_of, told_all};
 ghost use Rattle.line_forms.specs.declared.report_line.ReportLine.TheVariants.{Decided};
 

@@ -5,9 +5,9 @@ use Rattle.engine.specs.declared.run_end.RunEnd.{RunEnd}
 use Rattle.command_output.specs.declared.outcome.CommandFault.{CommandFault}
 use Rattle.command_output.specs.declared.outcome.CommandFault.TheVariants.{NoMemory, Output}
 use Rattle.command_output.specs.declared.outcome.Ending.{Ending}
-use Rattle.written.specs.Written.{Leaves, Writes, WritesFront}
+use Rattle.written.specs.claims.Written.{Leaves, Writes, WritesFront}
 use Rattle.written.specs.WrittenLaws.{front_less, leaves_less}
-use Rattle.run_command.specs.Report.{ending_of}
+use Rattle.run_command.specs.claims.Report.{ending_of}
 
 -- where nothing was held back before, and nothing is now, all was written
 pub all_written : (old new : Option (List ℕ)) (held text left : List ℕ) → held ≡ [] → left ≡ [] → Leaves old new (held ++ text) left → Writes old new text

@@ -10,15 +10,15 @@ use Rattle.due_model.specs.declared.notice.Notice.{Notice}
 use Rattle.due_model.specs.declared.zone.Zone.{Zone}
 use Rattle.undelivered.specs.declared.Why.{Why}
 use Rattle.engine.specs.declared.run_end.RunEnd.{RunEnd}
-use Rattle.engine.specs.Lanes.{LaneParts}
+use Rattle.engine.specs.claims.Lanes.{LaneParts}
 use Rattle.command_output.specs.declared.outcome.CommandFault.{CommandFault}
 use Rattle.command_output.specs.declared.outcome.CommandFault.TheVariants as command
 use Rattle.command_output.specs.declared.outcome.Ending.{Ending}
-use Rattle.command_output.specs.Outcome.{IsWriteFault}
-use Rattle.written.specs.Written.{Leaves, Writes, WritesFront}
+use Rattle.command_output.specs.claims.Outcome.{IsWriteFault}
+use Rattle.written.specs.claims.Written.{Leaves, Writes, WritesFront}
 use Rattle.written.specs.WrittenLaws.{front_begun, front_less, front_longer, front_on, leaves_less, leaves_on}
-use Rattle.command_output.specs.RunLine.{closed_line, undelivered_line}
-use Rattle.run_command.specs.Report.{IsRun, WritesReport, channel_lines, channels_text, ending_of, letters_text, report_text}
+use Rattle.command_output.specs.claims.RunLine.{closed_line, undelivered_line}
+use Rattle.run_command.specs.claims.Report.{IsRun, WritesReport, channel_lines, channels_text, ending_of, letters_text, report_text}
 
 module _ {X : Type 0} (f : X → List ℕ) (old mid new : Option (List ℕ)) (held now : List ℕ) (xs : List X) (i : ℕ) (d : X) (within : i < length xs)
     (before : Leaves old mid (held ++ flat_map f (take i xs)) now) where

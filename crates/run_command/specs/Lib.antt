@@ -1,3 +1,4 @@
+pub mod claims
 pub mod Report
 pub mod Logged
 pub mod LoggedLaws

@@ -2,8 +2,8 @@
 use Rattle.std.specs.Prelude.{◌≡◌, ℕ, Bool, false, List, Option}
 use Rattle.due_model.specs.declared.config.Config.{Config}
 use Rattle.due_model.specs.declared.notice.Suppression.{Suppression}
-use Rattle.written.specs.Written.{Writes}
-use Rattle.run_command.specs.Report.{log_text}
+use Rattle.written.specs.claims.Written.{Writes}
+use Rattle.run_command.specs.claims.Report.{log_text}
 
 -- a log by this configuration: what its writer holds, where it tells that, how many lines were lost, and whether lines that only repeat
 -- the one before are folded

@@ -3,11 +3,11 @@ use Rattle.std.proofs.Common.{◌≡◌, ℕ, List, [], ◌++◌, Option, refl, 
 use Rattle.std.proofs.lemmas.Grind.{flat_map-append}
 use Rattle.due_model.specs.declared.config.Config.{Config}
 use Rattle.due_model.specs.declared.notice.Suppression.{Suppression}
-use Rattle.command_output.specs.ReportLine.{suppression_line}
-use Rattle.written.specs.Written.{Writes}
+use Rattle.command_output.specs.claims.ReportLine.{suppression_line}
+use Rattle.written.specs.claims.Written.{Writes}
 use Rattle.written.specs.WrittenLaws.{appends_more, appends_none}
 use Rattle.run_command.specs.Logged.{HasLogged, Logged}
-use Rattle.run_command.specs.Report.{log_text}
+use Rattle.run_command.specs.claims.Report.{log_text}
 
 pub logs_none : (s : Logged) → HasLogged s [] s
 logs_none s = record { config = refl; folds = refl; kept = λ none. none; written = λ plain none. appends_none s.contents }

@@ -1,8 +1,8 @@
 //! The lines of the ends of lanes: what standard output has of a run whose other lines went to a log.
 
 ghost use Rattle.std.specs.Prelude.{◌++◌, IfErr, OnOk};
-ghost use Rattle.command_output.specs.Outcome.{IsWriteFault};
-ghost use Rattle.written.specs.Written.{Leaves, WritesFront};
+ghost use Rattle.command_output.specs.claims.Outcome.{IsWriteFault};
+ghost use Rattle.written.specs.claims.Written.{Leaves, WritesFront};
 ghost use Rattle.run_command.specs.Report.{end_lines, ends_text};
 
 use crate::lanes::write_channels;

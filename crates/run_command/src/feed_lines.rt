@@ -1,9 +1,9 @@
 //! The lines of what the feed of a run gave: its lines that were refused, and what its events suppressed.
 
 ghost use Rattle.std.specs.Prelude.{◌≡◌, ◌++◌, IfErr, OnOk};
-ghost use Rattle.command_output.specs.Outcome.{IsWriteFault};
-ghost use Rattle.written.specs.Written.{Leaves, WritesFront};
-ghost use Rattle.run_command.specs.Report.{log_text, refused_text};
+ghost use Rattle.command_output.specs.claims.Outcome.{IsWriteFault};
+ghost use Rattle.written.specs.claims.Written.{Leaves, WritesFront};
+ghost use Rattle.run_command.specs.claims.Report.{log_text, refused_text};
 
 use command_output::{CommandFault, Lines, OutputLine, Sink};
 use due_model::config::Config;

@@ -1,11 +1,11 @@
 //! The lines of lanes at the end of a run.
 
 ghost use Rattle.std.specs.Prelude.{◌≡◌, ◌++◌, IfErr, OnOk};
-ghost use Rattle.command_output.specs.Outcome.{IsWriteFault};
-ghost use Rattle.written.specs.Written.{Leaves, WritesFront};
-ghost use Rattle.run_command.specs.Report.{channel_lines, channels_text, has_undelivered, lane_lines};
-ghost use Rattle.run_command.specs.Report.{lanes_text, letters_text, taken_text};
-ghost use Rattle.command_output.specs.RunLine.{taken_line, undelivered_line};
+ghost use Rattle.command_output.specs.claims.Outcome.{IsWriteFault};
+ghost use Rattle.written.specs.claims.Written.{Leaves, WritesFront};
+ghost use Rattle.run_command.specs.claims.Report.{channel_lines, channels_text, has_undelivered, lane_lines};
+ghost use Rattle.run_command.specs.claims.Report.{lanes_text, letters_text, taken_text};
+ghost use Rattle.command_output.specs.claims.RunLine.{taken_line, undelivered_line};
 
 use command_output::{CommandFault, Lines, OutputLine, Sink};
 use due_model::config::{Config, LaneId};

@@ -3,11 +3,11 @@
 
 ghost use Rattle.std.specs.Prelude.{◌≡◌, ◌≤◌, ℕ, [], false, IsOk};
 ghost use Rattle.std.specs.Prelude.{IfErr, IfOk, IsErrOf, OnOk, ◌⊎◌};
-ghost use Rattle.due_model.specs.Accepted.{IsAccepted};
-ghost use Rattle.engine.specs.Lanes.{AreTold, channels_on, count_of};
-ghost use Rattle.command_output.specs.Outcome.{IsWriteFault};
-ghost use Rattle.written.specs.Written.{Writes, WritesFront};
-ghost use Rattle.run_command.specs.Report.{WritesReport, WritesReportFront, ending_of, report_text};
+ghost use Rattle.due_model.specs.claims.Accepted.{IsAccepted};
+ghost use Rattle.engine.specs.claims.Lanes.{AreTold, channels_on, count_of};
+ghost use Rattle.command_output.specs.claims.Outcome.{IsWriteFault};
+ghost use Rattle.written.specs.claims.Written.{Writes, WritesFront};
+ghost use Rattle.run_command.specs.claims.Report.{WritesReport, WritesReportFront, ending_of, report_text};
 
 mod ends;
 mod feed_lines;

@@ -2,9 +2,9 @@
 
 ghost use Rattle.std.specs.Prelude.{◌≡◌, ◌++◌, [], false, true, IfOk, OnOk};
 ghost use Rattle.std.specs.Arc.{arc_value};
-ghost use Rattle.command_output.specs.ReportLine.{suppression_line};
-ghost use Rattle.run_command.specs.Report.{log_text};
-ghost use Rattle.written.specs.Written.{Leaves};
+ghost use Rattle.command_output.specs.claims.ReportLine.{suppression_line};
+ghost use Rattle.run_command.specs.claims.Report.{log_text};
+ghost use Rattle.written.specs.claims.Written.{Leaves};
 
 use crate::repeats::{Repeat, Repeats, Step};
 use command_output::{CommandFault, Lines, OutputLine, Sink};

@@ -1,10 +1,10 @@
 //! A run whose deciders have logs of their own.
 
 ghost use Rattle.std.specs.Prelude.{◌≡◌, ◌≤◌, ℕ, [], length, IfErr, IfOk, OnOk};
-ghost use Rattle.due_model.specs.Accepted.{IsAccepted};
-ghost use Rattle.engine.specs.Lanes.{AreTold, channels_on, count_of};
-ghost use Rattle.command_output.specs.Outcome.{IsWriteFault};
-ghost use Rattle.written.specs.Written.{Writes, WritesFront};
+ghost use Rattle.due_model.specs.claims.Accepted.{IsAccepted};
+ghost use Rattle.engine.specs.claims.Lanes.{AreTold, channels_on, count_of};
+ghost use Rattle.command_output.specs.claims.Outcome.{IsWriteFault};
+ghost use Rattle.written.specs.claims.Written.{Writes, WritesFront};
 ghost use Rattle.run_command.specs.Report.{WritesEnds, WritesEndsFront, ends_text};
 
 use crate::ends::write_ends;

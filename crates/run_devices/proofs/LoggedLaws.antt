@@ -1,6 +1,6 @@
 -- A run with a log, by the lanes of its words.
 use Rattle.std.proofs.Common.{◌≡◌, ◌%◌, ℕ, Bool, List, length, map, Option, Result, Ok, Err, IfOk, subst}
-use Rattle.channel.specs.Channels.{Account, Offer}
+use Rattle.channel.specs.claims.Channels.{Account, Offer}
 use Rattle.channel_words.specs.Lanes.{channels_for}
 use Rattle.command_output.specs.declared.outcome.CommandFault.{CommandFault}
 use Rattle.command_output.specs.declared.outcome.Ending.{Ending}
@@ -8,7 +8,7 @@ use Rattle.due_model.specs.declared.config.Config.{Config}
 use Rattle.due_model.specs.declared.notice.Suppression.{Suppression}
 use Rattle.due_model.specs.declared.zone.Zone.{Zone}
 use Rattle.engine.specs.declared.post.Post.{Post}
-use Rattle.engine.specs.Lanes.{AreTold, IsCause, channels_on}
+use Rattle.engine.specs.claims.Lanes.{AreTold, IsCause, channels_on}
 use Rattle.run_command.specs.Report.{WritesEnds}
 use Rattle.run_devices.specs.Done.{WritesLogged}
 

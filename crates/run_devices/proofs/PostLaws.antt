@@ -10,8 +10,8 @@ use Rattle.due_model.specs.declared.config.Config.{Config}
 use Rattle.due_model.specs.declared.config.LaneId.{LaneId}
 use Rattle.due_model.specs.declared.zone.Zone.{Zone}
 use Rattle.engine.specs.declared.run_end.RunEnd.{RunEnd}
-use Rattle.engine.specs.Lanes.{IsCause, LaneParts, count_of}
-use Rattle.run_command.specs.Report.{IsRun, WritesReport}
+use Rattle.engine.specs.claims.Lanes.{IsCause, LaneParts, count_of}
+use Rattle.run_command.specs.claims.Report.{IsRun, WritesReport}
 use Rattle.run_devices.specs.declared.fault.RunFault.{RunFault}
 use Rattle.run_devices.specs.declared.fault.RunFault.TheVariants as faults
 use Rattle.channel_words.specs.declared.word.ChannelWord.{ChannelWord}

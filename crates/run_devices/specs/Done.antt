@@ -1,6 +1,6 @@
 -- What a run is that was done.
 use Rattle.std.specs.Prelude.{◌≡◌, ℕ, Bool, true, false, List, map, Option}
-use Rattle.channel.specs.Channels.{Account, Offer}
+use Rattle.channel.specs.claims.Channels.{Account, Offer}
 use Rattle.channel_words.specs.Lanes.{channels_for}
 use Rattle.command_output.specs.declared.outcome.Ending.{Ending}
 use Rattle.due_model.specs.declared.config.Choices.{Choices}
@@ -8,13 +8,14 @@ use Rattle.due_model.specs.declared.config.Config.{Config}
 use Rattle.due_model.specs.declared.config.LaneId.{LaneId}
 use Rattle.due_model.specs.declared.zone.Zone.{Zone}
 use Rattle.engine.specs.declared.post.Post.{Post}
-use Rattle.engine.specs.Lanes.{AreTold, channels_on}
+use Rattle.engine.specs.claims.Lanes.{AreTold, channels_on}
 use Rattle.engine.specs.declared.run_end.RunEnd.{RunEnd}
-use Rattle.engine.specs.Feed.{NoneIsAhead, ahead_in}
-use Rattle.engine.specs.Run.{IsReadOf, IsRunAfter}
+use Rattle.engine.specs.claims.Feed.{NoneIsAhead, ahead_in}
+use Rattle.engine.specs.claims.Run.{IsReadOf, IsRunAfter}
 use Rattle.due_model.specs.declared.notice.Suppression.{Suppression}
-use Rattle.run_command.specs.Report.{WritesReport, ending_of, ends_text}
-use Rattle.written.specs.Written.{Writes}
+use Rattle.run_command.specs.claims.Report.{WritesReport, ending_of}
+use Rattle.run_command.specs.Report.{ends_text}
+use Rattle.written.specs.claims.Written.{Writes}
 use Rattle.run_devices.specs.Channels.{Opened, asked_from}
 use Rattle.run_devices.specs.Fault.{AreRight}
 

@@ -11,7 +11,7 @@ use Rattle.command_output.specs.Outcome.{ending_status, fault_status}
 use Rattle.due_model.specs.declared.config.Choices.{Choices}
 use Rattle.due_model.specs.declared.config.Config.{Config}
 use Rattle.due_model.specs.declared.config.LaneId.{LaneId}
-use Rattle.due_model.specs.Accepted.{IsAccepted}
+use Rattle.due_model.specs.claims.Accepted.{IsAccepted}
 use Rattle.run_devices.specs.declared.fault.RunFault.{RunFault}
 use Rattle.run_devices.specs.declared.fault.RunFault.TheVariants.{Channel, Command}
 use Rattle.run_devices.specs.Channels.{IsOpeningFault}

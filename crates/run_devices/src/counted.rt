@@ -2,7 +2,8 @@
 
 ghost use Rattle.std.specs.Prelude.{◌≡◌, ◌↔◌, ◌+◌, ◌<◌, ◌≤◌, ◌∷◌, ◌++◌, [], length, IsTrue, IsErrOf};
 ghost use Rattle.std.specs.Prelude.{OnErr, OnOk};
-ghost use Rattle.channel.specs.Channels.{IsCounted, receipt_of};
+ghost use Rattle.channel.specs.claims.Channels.{receipt_of};
+ghost use Rattle.channel.specs.Channels.{IsCounted};
 
 use crate::settings::pause_after;
 use channel::letter::Letter;

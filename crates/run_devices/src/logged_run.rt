@@ -4,7 +4,7 @@ ghost use Rattle.std.specs.Prelude.{◌≡◌, ◌≤◌, ℕ, [], is_none, leng
 ghost use Rattle.std.specs.Arc.{arc_value};
 ghost use Rattle.std.specs.Option.{option_map};
 ghost use Rattle.channel_words.specs.Lanes.{channels_for};
-ghost use Rattle.due_model.specs.Accepted.{IsAccepted};
+ghost use Rattle.due_model.specs.claims.Accepted.{IsAccepted};
 ghost use Rattle.run_devices.specs.Channels.{numbered_from, opened};
 ghost use Rattle.run_devices.specs.Done.{IsLogged, RunsLogged, WritesLogged};
 ghost use Rattle.run_devices.specs.Fault.{IsCommandFault, RunFails};

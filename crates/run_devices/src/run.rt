@@ -3,7 +3,7 @@
 ghost use Rattle.std.specs.Prelude.{◌≡◌, ◌≤◌, ℕ, [], is_none, length, map, unwrap_or, IfErr, IfOk};
 ghost use Rattle.std.specs.Option.{option_map};
 ghost use Rattle.channel_words.specs.Lanes.{channels_for, names_of};
-ghost use Rattle.due_model.specs.Accepted.{IsAccepted};
+ghost use Rattle.due_model.specs.claims.Accepted.{IsAccepted};
 ghost use Rattle.run_devices.specs.Channels.{numbered_from, opened};
 ghost use Rattle.run_devices.specs.Done.{AreOpened, IsDone, RunsWith, WritesRun};
 ghost use Rattle.run_devices.specs.Fault.{AreChecked, ChecksFail, IsCommandFault, RunFails};

@@ -8,7 +8,7 @@ use Rattle.channel_words.specs.declared.word.ChannelWord.{ChannelWord}
 use Rattle.channel_words.specs.Lanes.{AreLanesOf, names_of}
 use Rattle.channel_words.specs.Words.{AreRead}
 use Rattle.command_output.specs.declared.outcome.CommandFault.{CommandFault}
-use Rattle.due_model.specs.Accepted.{IsAccepted}
+use Rattle.due_model.specs.claims.Accepted.{IsAccepted}
 use Rattle.channel_kinds.specs.declared.device.AnyDevice.{AnyDevice}
 use Rattle.channel_kinds.specs.DeviceChannel.{Held}
 use Rattle.run_devices.specs.Channels.{Opened, asked, asked_from, numbered_from, opened}

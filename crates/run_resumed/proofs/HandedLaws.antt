@@ -1,7 +1,8 @@
 -- From what a run tells of its channels to what the channels below them have taken.
 use Rattle.std.proofs.Common.{◌≡◌, Bool, true, false, cond, List, [], ◌∷◌, ◌++◌, map, refl, sym, ap, ◌∙◌, subst}
 use Rattle.std.specs.Prelude.{All}
-use Rattle.channel.specs.Channels.{Account, Offer, WasOffered, receipt_of, receipts_of}
+use Rattle.channel.specs.claims.Channels.{Account, Offer, receipt_of}
+use Rattle.channel.specs.Channels.{WasOffered, receipts_of}
 use Rattle.channel.specs.declared.Receipt.{Receipt}
 use Rattle.due_model.specs.declared.notice.Notice.{Notice}
 use Rattle.journal_text.specs.declared.entry.Entry.{Entry}

@@ -3,7 +3,7 @@ use Rattle.std.proofs.Common.{◌≡◌, ◌==◌, ◌<◌, ◌+◌, ℕ, Bool, 
 use Rattle.std.specs.Prelude.{All, slice_get}
 use Rattle.std.proofs.lemmas.List.Elements.{All-cons, All-filter, All-head, All-map, All-nil, All-tail, filter_passes}
 use Rattle.std.proofs.lemmas.Option.{slice_get-get_or}
-use Rattle.channel.specs.Channels.{Account, Offer}
+use Rattle.channel.specs.claims.Channels.{Account, Offer}
 use Rattle.channel_kinds.specs.declared.device.AnyDevice.{AnyDevice}
 use Rattle.channel_kinds.specs.DeviceChannel.{Held}
 use Rattle.channel_words.specs.declared.word.ChannelWord.{ChannelWord}
@@ -11,14 +11,14 @@ use Rattle.command_output.specs.declared.outcome.Ending.{Ending}
 use Rattle.due_model.specs.declared.config.Config.{Config}
 use Rattle.due_model.specs.declared.zone.Zone.{Zone}
 use Rattle.engine.specs.declared.post.Post.{Post}
-use Rattle.engine.specs.Lanes.{AreTold, HaveTaken, LaneParts, channels_on}
+use Rattle.engine.specs.claims.Lanes.{AreTold, HaveTaken, LaneParts, channels_on}
 use Rattle.journaled.specs.Wrapped.{Wrapped}
 use Rattle.run_devices.specs.Channels.{Opened, asked, numbered_from, opened}
 use Rattle.run_devices.specs.Done.{WritesLogged, WritesRun}
 use Rattle.earlier_runs.specs.declared.left.LaneState.{LaneState}
 use Rattle.earlier_runs.specs.State.{past_in}
 use Rattle.journal_file.specs.Text.{Text}
-use Rattle.written.specs.Written.{Writes}
+use Rattle.written.specs.claims.Written.{Writes}
 use Rattle.run_resumed.specs.JournalLines.{HasLines}
 use Rattle.run_resumed.specs.Resumed.{AddsLines, HasHandedOn, HaveHandedOn, IsFresh, IsResumedPost, WritesResumedEnds, WritesResumedRun}
 

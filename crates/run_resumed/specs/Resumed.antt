@@ -1,6 +1,7 @@
 -- What a run is that goes on.
 use Rattle.std.specs.Prelude.{◌≡◌, ℕ, All, Bool, true, false, List, [], Option, length, map, slice_get, Some}
-use Rattle.channel.specs.Channels.{Account, Offer, WasOffered, receipt_of}
+use Rattle.channel.specs.claims.Channels.{Account, Offer, receipt_of}
+use Rattle.channel.specs.Channels.{WasOffered}
 use Rattle.channel.specs.declared.Receipt.{Receipt}
 use Rattle.channel_words.specs.Lanes.{channels_for}
 use Rattle.command_output.specs.declared.outcome.Ending.{Ending}
@@ -13,17 +14,18 @@ use Rattle.due_model.specs.declared.notice.Suppression.{Suppression}
 use Rattle.due_model.specs.declared.zone.Zone.{Zone}
 use Rattle.engine.specs.declared.post.Post.{Post}
 use Rattle.engine.specs.declared.run_end.RunEnd.{RunEnd}
-use Rattle.engine.specs.Feed.{NoneIsAhead, ahead_in}
-use Rattle.engine.specs.Lanes.{AreTold, LaneParts, channels_on}
-use Rattle.engine.specs.Run.{IsReadOf, IsRunAfter}
-use Rattle.event_feed.specs.Feed.{Answer}
+use Rattle.engine.specs.claims.Feed.{NoneIsAhead, ahead_in}
+use Rattle.engine.specs.claims.Lanes.{AreTold, LaneParts, channels_on}
+use Rattle.engine.specs.claims.Run.{IsReadOf, IsRunAfter}
+use Rattle.event_feed.specs.claims.Feed.{Answer}
 use Rattle.journaled.specs.Claims.{IsHeld, new_of, settled_of}
 use Rattle.journaled.specs.Wrapped.{Wrapped}
 use Rattle.journal_file.specs.Text.{Text}
-use Rattle.run_command.specs.Report.{WritesReport, ending_of, ends_text}
+use Rattle.run_command.specs.claims.Report.{WritesReport, ending_of}
+use Rattle.run_command.specs.Report.{ends_text}
 use Rattle.run_devices.specs.Channels.{Opened}
 use Rattle.run_devices.specs.Done.{AreOpened}
-use Rattle.written.specs.Written.{Writes}
+use Rattle.written.specs.claims.Written.{Writes}
 use Rattle.earlier_runs.specs.Compared.{IsSame}
 use Rattle.earlier_runs.specs.declared.left.LaneState.{LaneState}
 use Rattle.earlier_runs.specs.FromNow.{GivesUpAll}

@@ -2,7 +2,7 @@
 
 ghost use Rattle.std.specs.Prelude.{◌≡◌, ◌++◌, ℕ, List, Some, map, slice_get, IfOk, OnOk};
 ghost use Rattle.run_resumed.specs.JournalLines.{HasLines, IsLine, taken_by};
-ghost use Rattle.written.specs.Written.{Writes, WritesFront};
+ghost use Rattle.written.specs.claims.Written.{Writes, WritesFront};
 
 use crate::posts::ResumedChannel;
 use channel::Channel;

@@ -3,7 +3,7 @@
 ghost use Rattle.std.specs.Prelude.{◌≤◌, ℕ, is_none, map, IfOk, List};
 ghost use Rattle.std.specs.Arc.{arc_value};
 ghost use Rattle.channel_words.specs.Lanes.{channels_for};
-ghost use Rattle.due_model.specs.Accepted.{IsAccepted};
+ghost use Rattle.due_model.specs.claims.Accepted.{IsAccepted};
 ghost use Rattle.earlier_runs.specs.declared.left.LaneState.{LaneState};
 ghost use Rattle.run_resumed.specs.Resumed.{AreFresh, TellsOffers, WritesResumedEnds, WritesResumedRun};
 

@@ -4,8 +4,8 @@ ghost use Rattle.std.specs.Prelude.{◌≡◌, ◌≤◌, [], length, map, unwra
 ghost use Rattle.std.specs.Arc.{arc_value};
 ghost use Rattle.std.specs.Option.{option_map};
 ghost use Rattle.due_feed.specs.Seen.{due_of, past_of};
-ghost use Rattle.due_model.specs.Accepted.{IsAccepted};
-ghost use Rattle.event_feed.specs.Feed.{Answer};
+ghost use Rattle.due_model.specs.claims.Accepted.{IsAccepted};
+ghost use Rattle.event_feed.specs.claims.Feed.{Answer};
 ghost use Rattle.run_devices.specs.Channels.{numbered_from, opened};
 ghost use Rattle.run_devices.specs.Done.{AreOpened};
 ghost use Rattle.earlier_runs.specs.Compared.{IsSame};

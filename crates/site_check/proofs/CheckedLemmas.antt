@@ -15,12 +15,12 @@ use Rattle.object_faults.specs.declared.load_fault.BlockFault.{BlockFault}
 use Rattle.object_faults.specs.declared.load_fault.LoadFault.{LoadFault}
 use Rattle.object_faults.specs.declared.load_fault.LoadFault.TheVariants as load
 use Rattle.object_reader.specs.Blocks.{Gives}
-use Rattle.object_reader.specs.Grammar.{IsObjectText}
+use Rattle.object_reader.specs.claims.Grammar.{IsObjectText}
 use Rattle.object_reader.specs.declared.block.Block.{Block}
 use Rattle.object_reader.specs.declared.fault.LineFault.{LineFault}
 use Rattle.object_reader.specs.declared.fault.ReadFault.{ReadFault}
-use Rattle.object_resolve.specs.Resolve.{IsRefusal}
-use Rattle.object_resolve.specs.Text.{IsTextFault, IsTextOf}
+use Rattle.object_resolve.specs.claims.Resolve.{IsRefusal}
+use Rattle.object_resolve.specs.claims.Text.{IsTextFault, IsTextOf}
 use Rattle.site_check.specs.Checked.{AreRefused, IsChecked, IsToldAlone}
 use Rattle.site_check.specs.Faults.{AreTold, is_answer}
 use Rattle.site_check.specs.Warnings.{IsOfFaulty, IsOfText}

@@ -4,7 +4,7 @@ use Rattle.std.specs.Prelude.{count_by, is_some}
 use Rattle.std.specs.List.Sorted.{IsPermutation}
 use Rattle.std.proofs.lemmas.List.Sorted.{length_permutation}
 use Rattle.due_model.specs.declared.config.Config.{Config}
-use Rattle.object_inheritance.specs.Faults as templates
+use Rattle.object_inheritance.specs.claims.Faults as templates
 use Rattle.object_inheritance.specs.declared.templates.TemplateFault.{TemplateFault}
 use Rattle.object_reader.specs.declared.block.Block.{Block}
 use Rattle.object_warnings.specs.Hours.{AreFirst}

@@ -9,13 +9,14 @@ use Rattle.object_check.specs.Marks.{name_misfits}
 use Rattle.object_check.specs.Rows.{Asked, said_by, value_rows}
 use Rattle.object_check.specs.declared.misfits.Misfit.{Misfit}
 use Rattle.object_check.specs.declared.rows.Must.{Must}
-use Rattle.object_faults.specs.Faults as values
-use Rattle.object_faults.specs.LoadFaults.{of_value}
+use Rattle.object_faults.specs.claims.Faults as values
+use Rattle.object_faults.specs.claims.LoadFaults.{of_value}
 use Rattle.object_faults.specs.declared.fault.ValueFault.{ValueFault}
 use Rattle.object_faults.specs.declared.load_fault.BlockFault.{BlockFault}
 use Rattle.object_faults.specs.declared.load_fault.BlockFault.TheVariants.{MissingDirective}
 use Rattle.object_faults.specs.declared.load_fault.LoadFault.{LoadFault}
 use Rattle.object_faults.specs.declared.load_fault.LoadFault.TheVariants as load
+use Rattle.object_inheritance.specs.claims.Faults as templates_claims
 use Rattle.object_inheritance.specs.Faults as templates
 use Rattle.object_inheritance.specs.declared.templates.InheritanceFault.{InheritanceFault}
 use Rattle.object_inheritance.specs.declared.templates.InheritanceFault.TheVariants.{AtLine}
@@ -23,17 +24,17 @@ use Rattle.object_inheritance.specs.declared.templates.TemplateFault.{TemplateFa
 use Rattle.object_names.specs.Named.{all_kinds}
 use Rattle.object_reader.specs.declared.block.Block.{Block}
 use Rattle.object_reader.specs.declared.block.BlockKind.{BlockKind}
-use Rattle.object_resolve.specs.Resolve.{IsMisvalued, IsRefusal}
+use Rattle.object_resolve.specs.claims.Resolve.{IsMisvalued, IsRefusal}
 use Rattle.site_check.specs.Faults.{AreInOrder, AreNameFaults, AreTold, doubled_among, IsBegun, line_at, load_fault, name_found, value_fault, value_faults, value_found}
 use Rattle.site_check.specs.declared.found.Found.{Found}
 
 -- ---- the first block with a fault
 
 -- templates without a fault have no first one
-pub templated-none : (blocks : List Block) (line : ℕ) (fault : TemplateFault) → templates.AreFree blocks → templates.IsFirstFault blocks line fault → ⊥
+pub templated-none : (blocks : List Block) (line : ℕ) (fault : TemplateFault) → templates_claims.AreFree blocks → templates_claims.IsFirstFault blocks line fault → ⊥
 templated-none blocks line own free first =
     let none = free first.place first.block first.here in
-    none-some own (none.is ∙ ap (λ (looped : Bool). templates.fault_by (templates.uses_unknown blocks first.block) looped (templates.is_doubled blocks first.place first.block))
+    none-some own (none.is ∙ ap (λ (looped : Bool). templates_claims.fault_by (templates_claims.uses_unknown blocks first.block) looped (templates_claims.is_doubled blocks first.place first.block))
     (same none.looped (first.refused).looped (λ on. ((first.refused).lies).1 ((none.lies).0 on)) (λ on. (none.lies).1 (((first.refused).lies).0 on)))
     ∙ sym (first.refused).is)
   where
@@ -43,7 +44,7 @@ templated-none blocks line own free first =
     same false false to from = refl
 
 -- a refusal that isn't want of memory is the first fault
-pub first-of : (blocks : List Block) (r : InheritanceFault) (line : ℕ) (own : TemplateFault) → r ≡ AtLine line own → templates.IsRefusal blocks r → templates.IsFirstFault blocks line own
+pub first-of : (blocks : List Block) (r : InheritanceFault) (line : ℕ) (own : TemplateFault) → r ≡ AtLine line own → templates.IsRefusal blocks r → templates_claims.IsFirstFault blocks line own
 first-of blocks r line own is refused = subst (λ (f : InheritanceFault). templates.IsRefusal blocks f) is refused
 
 -- the same of values
@@ -75,7 +76,7 @@ valued-same blocks l m f g one other =
 -- ---- values
 
 -- the fault of values that loading answers
-misvalued : (blocks : List Block) (line : ℕ) (fault : BlockFault) → templates.AreFree blocks → IsRefusal blocks line fault → (values.AreFree blocks → ⊥) → IsMisvalued blocks line fault
+misvalued : (blocks : List Block) (line : ℕ) (fault : BlockFault) → templates_claims.AreFree blocks → IsRefusal blocks line fault → (values.AreFree blocks → ⊥) → IsMisvalued blocks line fault
 misvalued blocks line fault free (inl templated) broken = absurd (templated-none blocks line templated.0 free templated.1)
 misvalued blocks line fault free (inr (same, inl valued)) broken = valued
 misvalued blocks line fault free (inr (same, inr (good, unfit))) broken = absurd (broken good)
@@ -92,7 +93,7 @@ first-told blocks misfit answered =
     ∙ ap (λ (o : Option Asked). load.Block answered.block.line (option_map_or (λ asked. of_value (fault_by asked.must)) o MissingDirective)) answered.listed
 
 -- It is the one that loading answers.
-first-answered : (blocks : List Block) (line : ℕ) (fault : BlockFault) (misfit : Misfit) → templates.AreFree blocks → IsRefusal blocks line fault → IsAnswered blocks misfit
+first-answered : (blocks : List Block) (line : ℕ) (fault : BlockFault) (misfit : Misfit) → templates_claims.AreFree blocks → IsRefusal blocks line fault → IsAnswered blocks misfit
     → load_fault blocks (value_found misfit) ≡ load.Block line fault
 first-answered blocks line fault misfit free refused answered =
     let valued = misvalued blocks line fault free refused (answered-broken blocks misfit answered) in
@@ -103,7 +104,7 @@ first-answered blocks line fault misfit free refused answered =
     ∙ ap (load.Block line) (sym valued.2)
 
 -- what is told where values have faults
-pub values-told : (blocks : List Block) (line : ℕ) (fault : BlockFault) (misfits : List Misfit) (told : List LoadFault) → templates.AreFree blocks → (misfits ≡ [] → ⊥)
+pub values-told : (blocks : List Block) (line : ℕ) (fault : BlockFault) (misfits : List Misfit) (told : List LoadFault) → templates_claims.AreFree blocks → (misfits ≡ [] → ⊥)
     → map value_found misfits ≡ value_faults blocks → AreAnswered blocks misfits → told ≡ map (load_fault blocks) (map value_found misfits) → IsRefusal blocks line fault
     → AreTold blocks (load.Block line fault) told
 values-told blocks line fault [] told free some are answered is refused = absurd (some refl)
@@ -124,7 +125,7 @@ names-told blocks line fault [] told none answered first names = record {
 names-told blocks line fault (misfit ∷ misfits) told none answered first names = absurd (none-some misfit (ap (λ (xs : List Misfit). slice_get xs 0) (sym none)))
 
 -- what is told where a template has a fault
-pub templates-told : (blocks : List Block) (own : TemplateFault) (first : LoadFault) (told : List LoadFault) (m : ℕ) → templates.IsFirstFault blocks m own
+pub templates-told : (blocks : List Block) (own : TemplateFault) (first : LoadFault) (told : List LoadFault) (m : ℕ) → templates_claims.IsFirstFault blocks m own
     → slice_get told 0 ≡ Some first → AreTold blocks first told
 templates-told blocks own first told m faulty begins = record {
   begins = begins;

@@ -7,9 +7,9 @@ use Rattle.object_faults.specs.LoadFaults.{fault_name}
 use Rattle.object_faults.specs.declared.load_fault.LoadFault.{LoadFault}
 use Rattle.object_faults.specs.declared.load_fault.LoadFault.TheVariants as load
 use Rattle.object_reader.specs.Fault as reader
-use Rattle.object_reader.specs.Grammar.{IsObjectText}
+use Rattle.object_reader.specs.claims.Grammar.{IsObjectText}
 use Rattle.object_reader.specs.declared.block.Block.{Block}
-use Rattle.object_resolve.specs.Text.{IsTextFault, IsTextOf}
+use Rattle.object_resolve.specs.claims.Text.{IsTextFault, IsTextOf}
 use Rattle.site_check.specs.Faults.{AreTold}
 use Rattle.site_check.specs.Warnings.{IsOfFaulty, IsOfText}
 use Rattle.site_check.specs.declared.options.Form.{Form}

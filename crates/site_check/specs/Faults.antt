@@ -9,16 +9,18 @@ use Rattle.object_check.specs.Answered.{fault_by}
 use Rattle.object_check.specs.Marks.{name_misfits, value_misfits}
 use Rattle.object_check.specs.Rows.{value_rows}
 use Rattle.object_check.specs.declared.misfits.Misfit.{Misfit}
-use Rattle.object_faults.specs.Faults as values
-use Rattle.object_faults.specs.LoadFaults.{fault_name, of_value}
+use Rattle.object_faults.specs.claims.Faults as values
+use Rattle.object_faults.specs.claims.LoadFaults.{of_value}
+use Rattle.object_faults.specs.LoadFaults.{fault_name}
 use Rattle.object_faults.specs.declared.load_fault.BlockFault.{BlockFault}
 use Rattle.object_faults.specs.declared.load_fault.BlockFault.TheVariants.{Doubled, MissingDirective, UnknownName}
 use Rattle.object_faults.specs.declared.load_fault.LoadFault.{LoadFault}
 use Rattle.object_faults.specs.declared.load_fault.LoadFault.TheVariants as load
 use Rattle.object_groups.specs.Names.{is_doubled}
-use Rattle.object_groups.specs.Objects.{names_in, objects_in}
-use Rattle.object_inheritance.specs.Faults as templates
-use Rattle.object_names.specs.Named.{all_kinds, block_kind}
+use Rattle.object_groups.specs.claims.Objects.{names_in, objects_in}
+use Rattle.object_inheritance.specs.claims.Faults as templates
+use Rattle.object_names.specs.claims.Named.{block_kind}
+use Rattle.object_names.specs.Named.{all_kinds}
 use Rattle.object_names.specs.declared.named.NamedKind.{NamedKind}
 use Rattle.object_reader.specs.declared.block.Block.{Block}
 use Rattle.object_reader.specs.declared.block.BlockKind.{BlockKind}

@@ -3,14 +3,14 @@ use Rattle.std.specs.Prelude.{◌≡◌, ℕ, ◌+◌, Bool, List, [], ◌∷◌
 use Rattle.std.specs.List.{list_any}
 use Rattle.std.specs.Option.{option_map_or}
 use Rattle.std.specs.Str.{bytes_eq}
-use Rattle.due_model.specs.Limits.{last_moment}
+use Rattle.due_model.specs.claims.Limits.{last_moment}
 use Rattle.due_model.specs.declared.config.Config.{Config}
-use Rattle.object_groups.specs.Objects.{objects_in}
-use Rattle.object_inheritance.specs.Faults as templates
-use Rattle.object_names.specs.Named.{block_kind}
+use Rattle.object_groups.specs.claims.Objects.{objects_in}
+use Rattle.object_inheritance.specs.claims.Faults as templates
+use Rattle.object_names.specs.claims.Named.{block_kind}
 use Rattle.object_names.specs.declared.named.NamedKind.{NamedKind}
 use Rattle.object_names.specs.declared.named.NamedKind.TheVariants as named
-use Rattle.object_reader.specs.Grammar.{IsObjectText}
+use Rattle.object_reader.specs.claims.Grammar.{IsObjectText}
 use Rattle.object_reader.specs.declared.block.Block.{Block}
 use Rattle.object_reader.specs.declared.block.BlockKind.{BlockKind}
 use Rattle.object_reader.specs.declared.block.BlockKind.TheVariants as blocks_of

@@ -2,8 +2,8 @@
 
 ghost use Rattle.std.specs.Prelude.{◌≡◌, ◌<◌, find, length, map, slice_get, Some, IfOk, OnOk};
 ghost use Rattle.object_faults.specs.declared.load_fault.LoadFault.TheVariants as load;
-ghost use Rattle.object_inheritance.specs.Faults.{AreFree};
-ghost use Rattle.object_resolve.specs.Resolve.{IsRefusal};
+ghost use Rattle.object_inheritance.specs.claims.Faults.{AreFree};
+ghost use Rattle.object_resolve.specs.claims.Resolve.{IsRefusal};
 ghost use Rattle.site_check.specs.Faults.{AreNameFaults, AreTold, is_answer, load_fault};
 ghost use Rattle.site_check.specs.Faults.{value_found};
 

@@ -1,11 +1,11 @@
 //! The check of object text: all faults of the first pass that finds any, told one after another, and then the warnings.
 
 ghost use Rattle.std.specs.Prelude.{◌≡◌, ◌<◌, ◌⊎◌, ◌∷◌, [], false, IfErr, IfOk};
-ghost use Rattle.due_model.specs.Accepted.{IsAccepted};
+ghost use Rattle.due_model.specs.claims.Accepted.{IsAccepted};
 ghost use Rattle.due_model.specs.declared.config.Config.{Config};
 ghost use Rattle.object_faults.specs.declared.load_fault.LoadFault.TheVariants as load;
-ghost use Rattle.object_resolve.specs.Resolve.{IsRefusal};
-ghost use Rattle.object_resolve.specs.Text.{IsTextFault, IsTextOf};
+ghost use Rattle.object_resolve.specs.claims.Resolve.{IsRefusal};
+ghost use Rattle.object_resolve.specs.claims.Text.{IsTextFault, IsTextOf};
 ghost use Rattle.site_check.specs.Checked.{AreRefused, IsChecked, IsToldAlone};
 ghost use Rattle.site_check.specs.Faults.{AreTold};
 ghost use Rattle.site_check.specs.Warnings.{IsOfFaulty, IsOfText};

@@ -2,7 +2,7 @@
 
 ghost use Rattle.std.specs.Prelude.{◌≡◌, map, Some, slice_get, true, false, IfOk};
 ghost use Rattle.object_check.specs.Answered.{fault_by};
-ghost use Rattle.object_faults.specs.LoadFaults.{of_value};
+ghost use Rattle.object_faults.specs.claims.LoadFaults.{of_value};
 ghost use Rattle.site_check.specs.Faults.{IsBegun, line_at, load_fault, name_found};
 ghost use Rattle.site_check.specs.Faults.{value_fault, value_found};
 

@@ -2,7 +2,7 @@
 
 ghost use Rattle.std.specs.Prelude.{◌≡◌, ◌<◌, ◌++◌, ◌∷◌, [], length, map};
 ghost use Rattle.std.specs.Prelude.{IfOk, OnOk, if◌then◌else◌};
-ghost use Rattle.object_groups.specs.Objects.{objects_in};
+ghost use Rattle.object_groups.specs.claims.Objects.{objects_in};
 ghost use Rattle.object_names.specs.Named.{all_kinds};
 ghost use Rattle.site_check.specs.Faults.{AreInOrder, doubled_among, doubled_at, doubled_in};
 ghost use Rattle.site_check.specs.Faults.{name_found};

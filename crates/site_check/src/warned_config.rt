@@ -2,7 +2,7 @@
 
 ghost use Rattle.std.specs.Prelude.{◌≡◌, ◌+◌, count_by, is_some, length, sum_by};
 ghost use Rattle.std.specs.Prelude.{IfOk, OnOk, if◌then◌else◌};
-ghost use Rattle.due_model.specs.Accepted.{IsAccepted};
+ghost use Rattle.due_model.specs.claims.Accepted.{IsAccepted};
 ghost use Rattle.site_check.specs.Warnings.{IsHours, IsOfConfig, of_objects, of_periods, of_unused};
 ghost use Rattle.site_check.specs.Warnings.{never_numbers, of_dead, of_never, of_silent, of_unknown_zone};
 ghost use Rattle.site_check.specs.Warnings.{of_without_problems};

@@ -1,7 +1,7 @@
 //! The lines that tell warnings.
 
 ghost use Rattle.std.specs.Prelude.{◌≡◌, length, IfOk, OnOk};
-ghost use Rattle.due_model.specs.Accepted.{IsAccepted};
+ghost use Rattle.due_model.specs.claims.Accepted.{IsAccepted};
 ghost use Rattle.site_check.specs.Warnings.{IsIfFree, IsOfConfig, IsOfFaulty, IsOfText};
 
 use crate::options::Form;

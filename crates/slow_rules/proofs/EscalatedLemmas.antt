@@ -5,7 +5,7 @@ use Rattle.std.proofs.lemmas.List.Folds.{list_any-append}
 use Rattle.due_model.specs.declared.config.ContactId.{ContactId}
 use Rattle.due_model.specs.declared.config.Escalation.{Escalation}
 use Rattle.due_model.specs.declared.config.Object.{Object}
-use Rattle.due_model.specs.Escalations.{has_contact, reaches}
+use Rattle.due_model.specs.claims.Escalations.{has_contact, reaches}
 use Rattle.slow_rules.specs.Escalated.{has_some, named_by}
 
 named_any : (es : List Escalation) (k : ℕ) → has_contact (named_by es) k ≡ list_any (λ e. has_contact e.contacts k) es

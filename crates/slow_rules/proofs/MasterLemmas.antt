@@ -8,10 +8,10 @@ use Rattle.due_model.specs.declared.event.Event.{Event}
 use Rattle.due_model.specs.declared.state.State.{State}
 use Rattle.due_model.specs.declared.state.State.TheVariants.{Pending}
 use Rattle.due_model.specs.declared.zone.Zone.{Zone}
-use Rattle.due_model.specs.Accepted.{DependencyFits, IsAccepted}
-use Rattle.due_model.specs.Dependencies.{dependency_fails, entry_fails, fails_at}
-use Rattle.due_model.specs.Periods.{in_period}
-use Rattle.due_model.specs.Readings.{hard, moment}
+use Rattle.due_model.specs.claims.Accepted.{DependencyFits, IsAccepted}
+use Rattle.due_model.specs.claims.Dependencies.{dependency_fails, entry_fails, fails_at}
+use Rattle.due_model.specs.claims.Periods.{in_period}
+use Rattle.due_model.specs.claims.Readings.{hard, moment}
 use Rattle.slow_rules.specs.Rounds.{state_of}
 
 any_agree : {X : Type 0} (P : X → Type 0) (p q : X → Bool) → ((x : X) → P x → p x ≡ q x) → (xs : List X) → All P xs → list_any p xs ≡ list_any q xs

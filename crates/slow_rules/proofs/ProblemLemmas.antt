@@ -3,8 +3,8 @@ use Rattle.std.proofs.Common.{true, false, if◌then◌else◌, ap₂, ◌≡◌
 use Rattle.due_model.specs.declared.event.Event.{Event}
 use Rattle.due_model.specs.declared.notice.Outcome.{Outcome}
 use Rattle.due_model.specs.declared.notice.Outcome.TheVariants.{Nothing}
-use Rattle.due_model.specs.Readings.{begins}
-use Rattle.due_model.specs.Histories.{of_problem}
+use Rattle.due_model.specs.claims.Readings.{begins}
+use Rattle.due_model.specs.claims.Histories.{of_problem}
 use Rattle.lemmas.proofs.Lists.{past_more, part_more, drop_none}
 
 -- where a problem begins at place i, its outcomes are that of place i alone

@@ -8,9 +8,9 @@ use Rattle.std.proofs.lemmas.List.Folds.{list_any-append}
 use Rattle.due_model.specs.declared.config.Dated.{Dated}
 use Rattle.due_model.specs.declared.config.Period.{Period}
 use Rattle.due_model.specs.declared.config.Range.{Range}
-use Rattle.due_model.specs.Days.{class_of, decided, decides, lines_on, names_day, ranges_by}
-use Rattle.due_model.specs.Local.{Local, weekday_at}
-use Rattle.due_model.specs.Periods.{in_range, weekly_ranges}
+use Rattle.due_model.specs.claims.Days.{class_of, decided, decides, lines_on, names_day, ranges_by}
+use Rattle.due_model.specs.claims.Local.{Local, weekday_at}
+use Rattle.due_model.specs.claims.Periods.{in_range, weekly_ranges}
 use Rattle.slow_rules.specs.Rounds.{is_first, own_ranges_hold}
 
 module _ {X : Type 0} where

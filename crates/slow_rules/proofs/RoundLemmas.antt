@@ -9,9 +9,9 @@ use Rattle.due_model.specs.declared.config.Period.{Period}
 use Rattle.due_model.specs.declared.config.PeriodId.{PeriodId}
 use Rattle.due_model.specs.declared.state.State.{State}
 use Rattle.due_model.specs.declared.zone.Zone.{Zone}
-use Rattle.due_model.specs.Dependencies.{entry_fails, fails_at}
-use Rattle.due_model.specs.Local.{Local}
-use Rattle.due_model.specs.Periods.{holds, in_period}
+use Rattle.due_model.specs.claims.Dependencies.{entry_fails, fails_at}
+use Rattle.due_model.specs.claims.Local.{Local}
+use Rattle.due_model.specs.claims.Periods.{holds, in_period}
 use Rattle.slow_rules.specs.Flags.{flag_at}
 use Rattle.slow_rules.specs.Rounds.{AreObjectFlags, ArePeriodFlags, ArePeriodsAt, entry_flag, is_open, object_flag, own_ranges_hold, period_flag, state_of}
 

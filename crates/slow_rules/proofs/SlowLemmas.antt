@@ -10,13 +10,14 @@ use Rattle.due_model.specs.declared.config.Object.{Object}
 use Rattle.due_model.specs.declared.event.Event.{Event}
 use Rattle.due_model.specs.declared.notice.Outcome.{Outcome}
 use Rattle.due_model.specs.declared.zone.Zone.{Zone}
-use Rattle.due_model.specs.Proper.{IsProper}
-use Rattle.due_model.specs.Limits.{last_moment}
-use Rattle.due_model.specs.Histories.{ended, hist, longer, outcome, released}
-use Rattle.due_model.specs.Due.{due_for, notices, suppressed_for, suppressions}
-use Rattle.due_model.specs.Acknowledgements.{ack_after, acked, acknowledgement}
-use Rattle.due_model.specs.Readings.{hard, moment}
-use Rattle.due_model.specs.Changes.{delayed}
+use Rattle.due_model.specs.claims.Proper.{IsProper}
+use Rattle.due_model.specs.claims.Limits.{last_moment}
+use Rattle.due_model.specs.claims.Histories.{ended, hist, longer, outcome, released}
+use Rattle.due_model.specs.claims.Due.{due_for, notices, suppressed_for, suppressions}
+use Rattle.due_model.specs.claims.Acknowledgements.{acked, acknowledgement}
+use Rattle.due_model.specs.Acknowledgements.{ack_after}
+use Rattle.due_model.specs.claims.Readings.{hard, moment}
+use Rattle.due_model.specs.claims.Changes.{delayed}
 use Rattle.lemmas.proofs.Acknowledgements.{acked_is, acknowledgement_after}
 use Rattle.lemmas.proofs.Lists.{All-reverse, length_past, past_more}
 use Rattle.lemmas.proofs.Beginnings.{delayed-le-moment, moment_in_range}

@@ -3,7 +3,7 @@ use Rattle.std.proofs.Common.{◌≡◌, ℕ, zero, suc, ◌+◌, ◌-◌, ◌<�
 use Rattle.due_model.specs.declared.config.Config.{Config}
 use Rattle.due_model.specs.declared.config.PeriodId.{PeriodId}
 use Rattle.due_model.specs.declared.zone.Zone.{Zone}
-use Rattle.due_model.specs.Periods.{first_passing, in_period, next_in, reach_of_next}
+use Rattle.due_model.specs.claims.Periods.{first_passing, in_period, next_in, reach_of_next}
 
 -- what is left to look at, from a moment on, up to the end
 abbrev pub IsLeft : (ℕ → Bool) → (t at : ℕ) → Type 0

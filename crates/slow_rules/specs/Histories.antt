@@ -3,7 +3,7 @@ use Rattle.std.specs.Prelude.{ℕ, ◌*◌, ◌^◌, ◌≤◌}
 use Rattle.due_model.specs.declared.notice.Outcome.{Outcome}
 use Rattle.due_model.specs.declared.notice.Outcome.TheVariants.{Nothing, Sent, Suppressed}
 use Rattle.due_model.specs.declared.rules.Last.{Last}
-use Rattle.due_model.specs.Limits.{last_moment}
+use Rattle.due_model.specs.claims.Limits.{last_moment}
 
 -- no gap is longer, in seconds
 abbrev pub longest_gap : ℕ

@@ -3,8 +3,8 @@ use Rattle.std.specs.Prelude.{ℕ, ◌≤◌, Option}
 use Rattle.due_model.specs.declared.config.Config.{Config}
 use Rattle.due_model.specs.declared.config.Object.{Object}
 use Rattle.due_model.specs.declared.zone.Zone.{Zone}
-use Rattle.due_model.specs.Limits.{last_moment}
-use Rattle.due_model.specs.Periods.{next_in}
+use Rattle.due_model.specs.claims.Limits.{last_moment}
+use Rattle.due_model.specs.claims.Periods.{next_in}
 use Rattle.slow_rules.specs.declared.histories.Retry.{Retry}
 use Rattle.slow_rules.specs.declared.histories.Retry.TheVariants.{At, InPeriod}
 

@@ -10,10 +10,10 @@ use Rattle.due_model.specs.declared.config.PeriodId.{PeriodId}
 use Rattle.due_model.specs.declared.state.State.{State}
 use Rattle.due_model.specs.declared.state.State.TheVariants as state
 use Rattle.due_model.specs.declared.zone.Zone.{Zone}
-use Rattle.due_model.specs.Dependencies.{entry_fails, fails_at}
-use Rattle.due_model.specs.Local.{Local, local}
-use Rattle.due_model.specs.Days.{class_of, names_day}
-use Rattle.due_model.specs.Periods.{holds, in_range, ranges_at}
+use Rattle.due_model.specs.claims.Dependencies.{entry_fails, fails_at}
+use Rattle.due_model.specs.claims.Local.{Local, local}
+use Rattle.due_model.specs.claims.Days.{class_of, names_day}
+use Rattle.due_model.specs.claims.Periods.{holds, in_range, ranges_at}
 use Rattle.slow_rules.specs.Flags.{flag_at}
 
 -- ---- periods

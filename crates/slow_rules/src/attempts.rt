@@ -1,10 +1,10 @@
 //! What an event attempts, by whose rules decide.
 
 ghost use Rattle.std.specs.Prelude.{◌≡◌, ◌==◌, ◌∷◌, Bool, false, None, Some, reverse, if◌then◌else◌};
-ghost use Rattle.due_model.specs.Acknowledgements.{takes_back};
-ghost use Rattle.due_model.specs.Histories.{is_of_problem_attempt, is_service_of, ready_or, released_by};
-ghost use Rattle.due_model.specs.Histories.{repeats, with_repeat};
-ghost use Rattle.due_model.specs.Readings.{moment};
+ghost use Rattle.due_model.specs.claims.Acknowledgements.{takes_back};
+ghost use Rattle.due_model.specs.claims.Histories.{is_of_problem_attempt, is_service_of, ready_or, released_by};
+ghost use Rattle.due_model.specs.claims.Histories.{repeats, with_repeat};
+ghost use Rattle.due_model.specs.claims.Readings.{moment};
 
 use crate::readings::{hard, moment_at, takes_back};
 use crate::subject::Subject;

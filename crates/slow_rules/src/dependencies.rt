@@ -1,10 +1,10 @@
 //! Whether a dependency fails (chapter "Host and Service Dependencies").
 
 ghost use Rattle.std.specs.Prelude.{◌≡◌, ℕ, ◌<◌, ◌≤◌, All, IfOk, false, length};
-ghost use Rattle.due_model.specs.Accepted.{IsAccepted};
+ghost use Rattle.due_model.specs.claims.Accepted.{IsAccepted};
 ghost use Rattle.due_model.specs.declared.zone.Zone.{Zone};
-ghost use Rattle.due_model.specs.Dependencies.{dependency_fails};
-ghost use Rattle.due_model.specs.Limits.{last_moment};
+ghost use Rattle.due_model.specs.claims.Dependencies.{dependency_fails};
+ghost use Rattle.due_model.specs.claims.Limits.{last_moment};
 ghost use Rattle.slow_rules.specs.Flags.{flag_at};
 ghost use Rattle.slow_rules.specs.Rounds.{AreObjectFlags, ArePeriodsAt, entry_flag, object_flag};
 ghost use Rattle.slow_rules.specs.Rounds.{state_of};

@@ -4,9 +4,9 @@
 ghost use Rattle.std.specs.Prelude.{◌≡◌, ℕ, ◌≤◌, ◌&&◌, ◌||◌, ◌==◌, ◌++◌};
 ghost use Rattle.std.specs.Prelude.{nat_le, min, IfOk, OnOk};
 ghost use Rattle.std.specs.Prelude.{option_map, unwrap_or};
-ghost use Rattle.due_model.specs.Limits.{last_moment};
-ghost use Rattle.due_model.specs.Escalations.{gap, has_contact, matches, matching, reaches};
-ghost use Rattle.due_model.specs.Rules.{has_letter};
+ghost use Rattle.due_model.specs.claims.Limits.{last_moment};
+ghost use Rattle.due_model.specs.claims.Escalations.{gap, has_contact, matches, matching, reaches};
+ghost use Rattle.due_model.specs.claims.Rules.{has_letter};
 ghost use Rattle.slow_rules.specs.Escalated.{has_some, least_of, named_by};
 ghost use Rattle.slow_rules.specs.Histories.{longest_gap};
 

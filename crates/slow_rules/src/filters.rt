@@ -3,11 +3,11 @@
 
 ghost use Rattle.std.specs.Prelude.{◌≡◌, ◌≤◌, ◌+◌, ◌*◌, ◌==◌, ◌&&◌, nat_lt, not};
 ghost use Rattle.std.specs.Prelude.{IfOk, IfSome};
-ghost use Rattle.due_model.specs.Limits.{last_moment};
-ghost use Rattle.due_model.specs.Rules.{contact_failing, failing, first_failing};
-ghost use Rattle.due_model.specs.Rules.{in_daemons_contact_order, in_daemons_order};
-ghost use Rattle.due_model.specs.Rules.{in_own_contact_order, in_own_order};
-ghost use Rattle.due_model.specs.Rules.{is_problem, is_too_soon, is_untold};
+ghost use Rattle.due_model.specs.claims.Limits.{last_moment};
+ghost use Rattle.due_model.specs.claims.Rules.{contact_failing, failing, first_failing};
+ghost use Rattle.due_model.specs.claims.Rules.{in_daemons_contact_order, in_daemons_order};
+ghost use Rattle.due_model.specs.claims.Rules.{in_own_contact_order, in_own_order};
+ghost use Rattle.due_model.specs.claims.Rules.{is_problem, is_too_soon, is_untold};
 ghost use Rattle.slow_rules.specs.Histories.{IsLastInRange};
 
 use crate::periods::in_period;

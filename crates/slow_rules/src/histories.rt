@@ -2,11 +2,11 @@
 
 ghost use Rattle.std.specs.Prelude.{◌≡◌, ◌<◌, ◌≤◌, ◌^◌, length, reverse, None, All};
 ghost use Rattle.std.specs.Prelude.{IfOk, IfSome, option_map, count_by, is_some, List, ◌∷◌};
-ghost use Rattle.due_model.specs.Limits.{last_moment};
+ghost use Rattle.due_model.specs.claims.Limits.{last_moment};
 ghost use Rattle.due_model.specs.declared.notice.Outcome.{Outcome};
-ghost use Rattle.due_model.specs.Histories.{before, of_problem, notice_of, notices_sent};
-ghost use Rattle.due_model.specs.Histories.{last_notice};
-ghost use Rattle.due_model.specs.Histories.{after_last, after_notice, retry_after, ready, told_letters};
+ghost use Rattle.due_model.specs.claims.Histories.{before, of_problem, notice_of, notices_sent};
+ghost use Rattle.due_model.specs.claims.Histories.{last_notice};
+ghost use Rattle.due_model.specs.claims.Histories.{after_last, after_notice, retry_after, ready, told_letters};
 ghost use Rattle.slow_rules.specs.Histories.{IsInRange, IsLastInRange, longest_gap};
 ghost use Rattle.slow_rules.specs.Retries.{IsRetryInRange, retry_moment};
 

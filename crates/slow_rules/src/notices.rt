@@ -1,10 +1,10 @@
 //! The notices and the suppressions that an outcome adds.
 
 ghost use Rattle.std.specs.Prelude.{◌≡◌, ◌≤◌, ◌++◌, [], IfOk, OnOk, Some, map, flat_map};
-ghost use Rattle.due_model.specs.Accepted.{IsAccepted};
-ghost use Rattle.due_model.specs.Due.{notice_to, refusal_of, notices, suppressions};
-ghost use Rattle.due_model.specs.Receivers.{receivers};
-ghost use Rattle.due_model.specs.Limits.{last_moment};
+ghost use Rattle.due_model.specs.claims.Accepted.{IsAccepted};
+ghost use Rattle.due_model.specs.claims.Due.{notice_to, refusal_of, notices, suppressions};
+ghost use Rattle.due_model.specs.claims.Receivers.{receivers};
+ghost use Rattle.due_model.specs.claims.Limits.{last_moment};
 ghost use Rattle.slow_rules.specs.Histories.{IsInRange};
 ghost use Rattle.slow_rules.specs.Notices.{number_of_contact, notice_in, suppression_in};
 

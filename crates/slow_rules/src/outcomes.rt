@@ -3,16 +3,16 @@
 ghost use Rattle.std.specs.Prelude.{◌≡◌, ◌≤◌, ◌<◌, ◌+◌, ◌^◌, ◌&&◌, ◌∷◌, All};
 ghost use Rattle.std.specs.Prelude.{IfOk, IfSome};
 ghost use Rattle.std.specs.Prelude.{length, reverse};
-ghost use Rattle.due_model.specs.Accepted.{IsAccepted};
-ghost use Rattle.due_model.specs.Histories.{status_after, gap_of, judged};
-ghost use Rattle.due_model.specs.Histories.{ended, outcome, reach_of};
-ghost use Rattle.due_model.specs.Histories.{ready, ready_or, released, repeats, timed, told_for};
-ghost use Rattle.due_model.specs.Histories.{with_repeat};
-ghost use Rattle.due_model.specs.Rules.{attempted};
-ghost use Rattle.due_model.specs.Limits.{last_moment};
-ghost use Rattle.due_model.specs.Proper.{IsProper};
-ghost use Rattle.due_model.specs.Changes.{delayed};
-ghost use Rattle.due_model.specs.Readings.{hard, is_problem_state, moment};
+ghost use Rattle.due_model.specs.claims.Accepted.{IsAccepted};
+ghost use Rattle.due_model.specs.claims.Histories.{status_after, gap_of, judged};
+ghost use Rattle.due_model.specs.claims.Histories.{ended, outcome, reach_of};
+ghost use Rattle.due_model.specs.claims.Histories.{ready, ready_or, released, repeats, timed, told_for};
+ghost use Rattle.due_model.specs.claims.Histories.{with_repeat};
+ghost use Rattle.due_model.specs.claims.Rules.{attempted};
+ghost use Rattle.due_model.specs.claims.Limits.{last_moment};
+ghost use Rattle.due_model.specs.claims.Proper.{IsProper};
+ghost use Rattle.due_model.specs.claims.Changes.{delayed};
+ghost use Rattle.due_model.specs.claims.Readings.{hard, is_problem_state, moment};
 ghost use Rattle.slow_rules.specs.Histories.{IsInRange, IsLastInRange, longest_gap};
 
 use crate::attempts::{ready_or, repeats, timed, with_repeat};

@@ -2,9 +2,9 @@
 
 ghost use Rattle.std.specs.Prelude.{◌≡◌, ◌<◌, ◌≤◌, ◌^◌, IfOk, length, map};
 ghost use Rattle.std.specs.List.{list_any};
-ghost use Rattle.due_model.specs.Limits.{last_moment};
+ghost use Rattle.due_model.specs.claims.Limits.{last_moment};
 ghost use Rattle.day_rules.specs.Dates.{shown};
-ghost use Rattle.due_model.specs.Periods.{in_period, next_in};
+ghost use Rattle.due_model.specs.claims.Periods.{in_period, next_in};
 ghost use Rattle.slow_rules.specs.Flags.{flag_at};
 ghost use Rattle.slow_rules.specs.Rounds.{ArePeriodFlags, ArePeriodsAt, is_open};
 ghost use Rattle.slow_rules.specs.Rounds.{period_flag};

@@ -3,9 +3,9 @@
 ghost use Rattle.std.specs.Prelude.{◌≡◌, not, nat_lt, ◌&&◌, if◌then◌else◌};
 ghost use Rattle.std.specs.List.{list_any};
 ghost use Rattle.day_rules.specs.Dates.{shown};
-ghost use Rattle.due_model.specs.Days.{class_of, names_day};
-ghost use Rattle.due_model.specs.Local.{weekday_at};
-ghost use Rattle.due_model.specs.Periods.{in_range, weekly_ranges};
+ghost use Rattle.due_model.specs.claims.Days.{class_of, names_day};
+ghost use Rattle.due_model.specs.claims.Local.{weekday_at};
+ghost use Rattle.due_model.specs.claims.Periods.{in_range, weekly_ranges};
 ghost use Rattle.slow_rules.specs.Rounds.{is_first, own_ranges_hold};
 
 use day_rules::{CalendarTime, class_of};

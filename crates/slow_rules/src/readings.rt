@@ -2,12 +2,12 @@
 
 ghost use Rattle.std.specs.Prelude.{◌≡◌, ◌≤◌, ◌<◌, ◌+◌, ◌^◌, ◌&&◌, ◌∷◌};
 ghost use Rattle.std.specs.Prelude.{not, length, reverse, if◌then◌else◌};
-ghost use Rattle.due_model.specs.Readings.{moment, program_on, hard, hard_after, switched};
-ghost use Rattle.due_model.specs.Readings.{is_problem_of, is_problem_state};
-ghost use Rattle.due_model.specs.Readings.{depth, depth_after, down, flapping, flapping_after};
-ghost use Rattle.due_model.specs.Acknowledgements.{acked, acknowledgement, takes_back};
-ghost use Rattle.due_model.specs.Changes.{delayed};
-ghost use Rattle.due_model.specs.Rules.{same_state};
+ghost use Rattle.due_model.specs.claims.Readings.{moment, program_on, hard, hard_after, switched};
+ghost use Rattle.due_model.specs.claims.Readings.{is_problem_of, is_problem_state};
+ghost use Rattle.due_model.specs.claims.Readings.{depth, depth_after, down, flapping, flapping_after};
+ghost use Rattle.due_model.specs.claims.Acknowledgements.{acked, acknowledgement, takes_back};
+ghost use Rattle.due_model.specs.claims.Changes.{delayed};
+ghost use Rattle.due_model.specs.claims.Rules.{same_state};
 
 use due_model::config::{Choices, Config, ObjectId};
 use due_model::event::{Event, EventKind};

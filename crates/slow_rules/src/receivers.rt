@@ -2,11 +2,11 @@
 
 ghost use Rattle.std.specs.Prelude.{◌≡◌, ◌≤◌, ◌&&◌, ◌||◌, IfOk, length, map};
 ghost use Rattle.std.specs.List.{list_any};
-ghost use Rattle.due_model.specs.Accepted.{IsAccepted};
-ghost use Rattle.due_model.specs.Escalations.{contacts_with, has_contact, reach};
-ghost use Rattle.due_model.specs.Limits.{last_moment, max_contacts};
-ghost use Rattle.due_model.specs.Readings.{is_problem_state};
-ghost use Rattle.due_model.specs.Receivers.{is_heard, others, passes, receivers, rights_for};
+ghost use Rattle.due_model.specs.claims.Accepted.{IsAccepted};
+ghost use Rattle.due_model.specs.claims.Escalations.{contacts_with, has_contact, reach};
+ghost use Rattle.due_model.specs.claims.Limits.{last_moment, max_contacts};
+ghost use Rattle.due_model.specs.claims.Readings.{is_problem_state};
+ghost use Rattle.due_model.specs.claims.Receivers.{is_heard, others, passes, receivers, rights_for};
 ghost use Rattle.slow_rules.specs.Notices.{number_of_contact};
 
 use crate::escalations::{Numbered, named};

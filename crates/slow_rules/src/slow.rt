@@ -1,9 +1,9 @@
 //! What is due and what is suppressed after some events, found by looking back over all of them at each.
 
 ghost use Rattle.std.specs.Prelude.{◌≡◌, ◌<◌, length, All, IfOk, reverse, slice_get, Some};
-ghost use Rattle.due_model.specs.Accepted.{IsAccepted};
-ghost use Rattle.due_model.specs.Due.{due, due_for, sup, suppressed_for};
-ghost use Rattle.due_model.specs.Proper.{IsProper};
+ghost use Rattle.due_model.specs.claims.Accepted.{IsAccepted};
+ghost use Rattle.due_model.specs.claims.Due.{due, due_for, sup, suppressed_for};
+ghost use Rattle.due_model.specs.claims.Proper.{IsProper};
 
 use crate::attempts::released_after;
 use crate::notices::{Answers, add_answers};

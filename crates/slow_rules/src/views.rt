@@ -4,12 +4,12 @@ ghost use Rattle.std.specs.Prelude.{◌≡◌, ◌≤◌, ◌&&◌, ◌||◌, �
 ghost use Rattle.std.specs.Prelude.{Bool, false, IfOk, IfSome, None, Some};
 ghost use Rattle.std.specs.Prelude.{length, reverse, map};
 ghost use Rattle.std.specs.List.{range_with_len};
-ghost use Rattle.due_model.specs.Accepted.{IsAccepted};
-ghost use Rattle.due_model.specs.Dependencies.{dependency_fails};
-ghost use Rattle.due_model.specs.Histories.{depends_at, down_with_host, host_holds, view, waiting};
-ghost use Rattle.due_model.specs.Limits.{last_moment, max_objects};
-ghost use Rattle.due_model.specs.Proper.{IsProper};
-ghost use Rattle.due_model.specs.Readings.{hard, is_hard_of, moment};
+ghost use Rattle.due_model.specs.claims.Accepted.{IsAccepted};
+ghost use Rattle.due_model.specs.claims.Dependencies.{dependency_fails};
+ghost use Rattle.due_model.specs.claims.Histories.{depends_at, down_with_host, host_holds, view, waiting};
+ghost use Rattle.due_model.specs.claims.Limits.{last_moment, max_objects};
+ghost use Rattle.due_model.specs.claims.Proper.{IsProper};
+ghost use Rattle.due_model.specs.claims.Readings.{hard, is_hard_of, moment};
 ghost use Rattle.slow_rules.specs.Histories.{IsInRange, IsLastInRange};
 
 use crate::dependencies::dependency_fails;

@@ -1,11 +1,11 @@
 //! Whether the wait after the last problem notice was ended.
 
 ghost use Rattle.std.specs.Prelude.{◌≡◌, ◌≤◌, ◌==◌, ◌&&◌, ◌||◌, ◌∷◌, is_some, not, reverse, IfOk};
-ghost use Rattle.due_model.specs.Histories.{down_with_host, ended_by, ended_within, host_holds};
-ghost use Rattle.due_model.specs.Histories.{is_by_switch, lapses, waits_a_while};
-ghost use Rattle.due_model.specs.Limits.{last_moment};
-ghost use Rattle.due_model.specs.Periods.{in_period};
-ghost use Rattle.due_model.specs.Rules.{is_problem, is_recovery};
+ghost use Rattle.due_model.specs.claims.Histories.{down_with_host, ended_by, ended_within, host_holds};
+ghost use Rattle.due_model.specs.claims.Histories.{is_by_switch, lapses, waits_a_while};
+ghost use Rattle.due_model.specs.claims.Limits.{last_moment};
+ghost use Rattle.due_model.specs.claims.Periods.{in_period};
+ghost use Rattle.due_model.specs.claims.Rules.{is_problem, is_recovery};
 ghost use Rattle.slow_rules.specs.Histories.{IsInRange};
 
 use crate::histories::notice_of;

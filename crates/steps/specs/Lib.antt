@@ -1,2 +1,2 @@
+pub mod claims
 pub mod Settings
-pub mod Lanes

@@ -1,7 +1,7 @@
 //! A lane: its queue, the message in hand, and what its channels have taken or not. One channel serves, and others stand by.
 
 ghost use Rattle.std.specs.Prelude.{◌≡◌, map, IfOk};
-ghost use Rattle.steps.specs.Lanes.{lane_state, new_lane};
+ghost use Rattle.steps.specs.claims.Lanes.{lane_state, new_lane};
 
 use crate::line::{LineParts, about_in, about_in_hand, about_in_queue, about_in_records};
 use crate::step::LaneStep;
@@ -36,8 +36,8 @@ pub struct KeptLane {
 
 impl KeptLane {
     ghost use Rattle.std.specs.Prelude.{◌↔◌, ◌<◌, [], ◌∷◌, length, IsTrue, OnOk, OnErr};
-    ghost use Rattle.steps.specs.Lanes.{Can, CanSettle, about, all_taken, closed};
-    ghost use Rattle.steps.specs.Lanes.{does, drained, queued, replaced, settled};
+    ghost use Rattle.steps.specs.claims.Lanes.{Can, CanSettle, about, all_taken, closed};
+    ghost use Rattle.steps.specs.claims.Lanes.{does, drained, queued, replaced, settled};
 
     /// A lane with nothing in it and so many channels.
     pub(crate) fn new(alloc: Global, channels: u8) -> Self

@@ -2,7 +2,7 @@
 
 ghost use Rattle.std.specs.Prelude.{◌≡◌, ◌++◌, IfOk, OnOk};
 ghost use Rattle.std.specs.Option.{option_to_list};
-ghost use Rattle.steps.specs.Lanes.{about, join_records, lists_of};
+ghost use Rattle.steps.specs.claims.Lanes.{about, join_records, lists_of};
 
 use due_model::config::ObjectId;
 use due_model::notice::Notice;

@@ -1,6 +1,6 @@
 //! How large a world is, and how often it tries.
 
-ghost use Rattle.steps.specs.Settings.{AreSettings};
+ghost use Rattle.steps.specs.claims.Settings.{AreSettings};
 
 use due_model::limits::MAX_DECIDERS;
 

@@ -9,7 +9,8 @@ use Rattle.std.proofs.lemmas.List.{append-nil, drop-drop, take-append-drop, take
 use Rattle.std.proofs.lemmas.List.Elements.{All-append, All-head, All-tail, All-nil}
 use Rattle.std.proofs.lemmas.List.Splits.{join_with_byte-slice_split, slice_split_at, slice_split_none, slice_split-cons_no}
 use Rattle.std.proofs.lemmas.Slice.Eq.{bytes_eq-Decides}
-use Rattle.text_lines.specs.Lines.{IsUnbroken, Known, is_newline, pieces}
+use Rattle.text_lines.specs.claims.Lines.{Known, is_newline, pieces}
+use Rattle.text_lines.specs.Lines.{IsUnbroken}
 use Rattle.text_lines.specs.LineReader.{Reading, Fills, to_come}
 use Rattle.text_lines.specs.declared.line_reader.Filled.TheVariants.{More, Empty}
 use Rattle.text_lines.specs.declared.text.Parting.{Parting}

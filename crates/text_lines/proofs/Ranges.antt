@@ -10,7 +10,8 @@ use Rattle.std.proofs.lemmas.List.Sums.{fails_before_first, prefix_len_stops}
 use Rattle.std.proofs.lemmas.List.Elements.{All-append}
 use Rattle.std.proofs.lemmas.List.{append-nil}
 use Rattle.std.proofs.Math.Seq.{drop-length, take-length, take-add}
-use Rattle.text_lines.specs.Lines.{is_newline, IsUnbroken}
+use Rattle.text_lines.specs.claims.Lines.{is_newline}
+use Rattle.text_lines.specs.Lines.{IsUnbroken}
 
 -- a part without its front is a part
 pub range-drop : (xs : List ℕ) (start place end : ℕ) → start + place ≤ end → slice_range xs (start + place) end ≡ drop place (slice_range xs start end)

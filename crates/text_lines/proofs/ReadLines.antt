@@ -5,9 +5,11 @@ use Rattle.std.proofs.lemmas.Bool.{cases_lt, lt-ltb, le-ltb}
 use Rattle.std.proofs.lemmas.List.{append-nil, length-append, length-take, take-append-drop, nil_from_length}
 use Rattle.std.proofs.lemmas.Option.{none-some, same_Some}
 use Rattle.std.proofs.lemmas.List.Elements.{All-append, All-nil}
-use Rattle.text_lines.specs.CountedReader.{calls_after}
-use Rattle.text_lines.specs.Lines.{is_newline, BeginsWithLine, IsUnbroken, Known}
-use Rattle.text_lines.specs.LineReader.{Reading, to_come, byte_limit, line_limit, BeginsUnbroken, ReadsFrom, ReadsLine, TextFits, cut_text, ending, Fills, MakesRoom}
+use Rattle.text_lines.specs.claims.CountedReader.{calls_after}
+use Rattle.text_lines.specs.claims.Lines.{is_newline, Known}
+use Rattle.text_lines.specs.Lines.{BeginsWithLine, IsUnbroken}
+use Rattle.text_lines.specs.claims.LineReader.{byte_limit, cut_text}
+use Rattle.text_lines.specs.LineReader.{Reading, to_come, line_limit, BeginsUnbroken, ReadsFrom, ReadsLine, TextFits, ending, Fills, MakesRoom}
 use Rattle.text_lines.specs.declared.line_reader.NextLine.{NextLine}
 use Rattle.text_lines.specs.declared.line_reader.NextLine.TheVariants.{Line, Long, Over}
 use Rattle.text_lines.specs.declared.line_reader.Stop.TheVariants.{InputEnded, CutLine, ReaderFailed}

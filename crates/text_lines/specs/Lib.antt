@@ -1,3 +1,4 @@
+pub mod claims
 pub mod Lines
 pub mod CountedReader
 pub mod LineReader

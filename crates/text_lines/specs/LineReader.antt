@@ -1,14 +1,16 @@
 -- What a reader of lines stands for, and what the reading of a line says of the bytes.
 use Rattle.std.specs.Prelude.{◌≡◌, ℕ, ◌+◌, ◌<◌, ◌≤◌, List, [], ◌++◌, length, nat_lt, if◌then◌else◌, ⊤, Option}
 use Rattle.std.specs.Io.KnownBytes.{Consumes, IsAtEnd, Keeps, prepend_known}
-pub use Rattle.due_model.specs.Limits.{line_limit}
-use Rattle.text_lines.specs.CountedReader.{calls_after}
-use Rattle.text_lines.specs.Lines.{BeginsWithLine, IsUnbroken, Known}
+pub use Rattle.due_model.specs.claims.Limits.{line_limit}
+use Rattle.text_lines.specs.claims.CountedReader.{calls_after}
+use Rattle.text_lines.specs.claims.Lines.{Known}
+use Rattle.text_lines.specs.Lines.{BeginsWithLine, IsUnbroken}
 use Rattle.text_lines.specs.declared.line_reader.Filled.{Filled}
 use Rattle.text_lines.specs.declared.line_reader.Filled.TheVariants.{More, Empty, Failed}
 use Rattle.text_lines.specs.declared.line_reader.NextLine.{NextLine}
 use Rattle.text_lines.specs.declared.line_reader.NextLine.TheVariants.{Line, Long, Over}
 use Rattle.text_lines.specs.declared.line_reader.Stop.TheVariants.{InputEnded, CutLine, ReaderFailed, TooManyCalls, TooManyBytes, TooManyLines}
+use Rattle.text_lines.specs.claims.LineReader.{byte_limit, call_limit, cut_text}
 
 -- the line that was read last, the bytes that are held but belong to no line yet, those that the reader still has, where
 -- they are known, and the calls that were made of it
@@ -22,22 +24,11 @@ pub record Reading : Type 0 where
 abbrev pub to_come : Reading → Option (List ℕ)
 to_come reading = prepend_known reading.held reading.unread
 
--- the most bytes of a line that is read over, and the most calls of a reader for one line
-abbrev pub byte_limit : ℕ
-byte_limit = 1_048_576
-
-abbrev pub call_limit : ℕ
-call_limit = 65_536
-
 -- the bytes begin with so many that have no newline among them
 abbrev pub BeginsUnbroken : List ℕ → ℕ → Type 0
 BeginsUnbroken bytes count =
     (text : List ℕ) × (more : List ℕ) × IsUnbroken text × (bytes ≡ text ++ more)
     × (count ≤ length text)
-
--- of a line that the end of the input cut: its text, or nothing where it has too many bytes
-abbrev pub cut_text : (count : ℕ) → List ℕ → List ℕ
-cut_text count text = if nat_lt line_limit count then [] else text
 
 -- what reading a line says of the bytes before it, its text, and the bytes after it
 abbrev pub ReadsFrom : List ℕ → NextLine → List ℕ → List ℕ → Type 0

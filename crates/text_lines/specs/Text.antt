@@ -2,8 +2,9 @@
 use Rattle.std.specs.Prelude.{◌≡◌, ℕ, ◌+◌, ◌-◌, ◌≤◌, Bool, false, List, [], ◌∷◌, ◌++◌, length, take, drop, if◌then◌else◌, Option, None, Some}
 use Rattle.std.specs.List.{join_with_byte}
 use Rattle.std.specs.Str.{bytes_eq}
-pub use Rattle.due_model.specs.Limits.{text_limit}
-use Rattle.text_lines.specs.Lines.{IsUnbroken, pieces}
+pub use Rattle.due_model.specs.claims.Limits.{text_limit}
+use Rattle.text_lines.specs.claims.Lines.{pieces}
+use Rattle.text_lines.specs.Lines.{IsUnbroken}
 use Rattle.text_lines.specs.LineReader.{Reading}
 use Rattle.text_lines.specs.declared.text.Parting.{Parting}
 use Rattle.text_lines.specs.declared.text.Search.{Search}

@@ -3,7 +3,7 @@
 ghost use Rattle.std.specs.Prelude.{◌≡◌, ◌*◌, ◌<◌, ◌≤◌, ◌==◌, IfSome, length};
 ghost use Rattle.std.specs.Prelude.{position, take_while};
 ghost use Rattle.std.specs.List.{position_or_len};
-ghost use Rattle.text_lines.specs.Lines.{has_line, is_newline};
+ghost use Rattle.text_lines.specs.claims.Lines.{has_line, is_newline};
 
 use std::simd::prelude::*;
 

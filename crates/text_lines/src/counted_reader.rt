@@ -2,7 +2,7 @@
 
 ghost use Rattle.std.specs.Prelude.{◌≡◌, ◌≤◌, false, length, IfOk, IsOk};
 ghost use Rattle.std.specs.Io.KnownBytes.{ReadConsumes};
-ghost use Rattle.text_lines.specs.CountedReader.{calls_after};
+ghost use Rattle.text_lines.specs.claims.CountedReader.{calls_after};
 
 use crate::input::Input;
 use std::io::{self, Read};

@@ -4,11 +4,13 @@ ghost use Rattle.std.specs.Prelude.{◌≡◌, ◌≢◌, ◌+◌, ◌-◌, ◌<
 ghost use Rattle.std.specs.Prelude.{length, take, drop, slice_index, slice_range, IfOk, IsOk};
 ghost use Rattle.std.specs.Prelude.{IsTrue};
 ghost use Rattle.std.specs.Io.KnownBytes.{ReadConsumes};
-ghost use Rattle.due_model.specs.Limits.{line_limit};
-ghost use Rattle.text_lines.specs.CountedReader.{calls_after};
-ghost use Rattle.text_lines.specs.Lines.{IsUnbroken, has_line, has_newline};
+ghost use Rattle.due_model.specs.claims.Limits.{line_limit};
+ghost use Rattle.text_lines.specs.claims.CountedReader.{calls_after};
+ghost use Rattle.text_lines.specs.claims.Lines.{has_line, has_newline};
+ghost use Rattle.text_lines.specs.Lines.{IsUnbroken};
 ghost use Rattle.text_lines.specs.LineReader.{Fills, MakesRoom, ReadsHeld, ReadsLine, SpendsCalls};
-ghost use Rattle.text_lines.specs.LineReader.{byte_limit, cut_text, ending};
+ghost use Rattle.text_lines.specs.claims.LineReader.{byte_limit, cut_text};
+ghost use Rattle.text_lines.specs.LineReader.{ending};
 
 use crate::bytes::{find_byte, has_line};
 use crate::counted_reader::CountedReader;

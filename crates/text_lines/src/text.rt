@@ -3,9 +3,9 @@
 ghost use Rattle.std.specs.Prelude.{◌≡◌, ◌<◌, ◌≤◌, ◌+◌, ℕ, List, [], ◌++◌, false};
 ghost use Rattle.std.specs.Prelude.{length, IfErr, IfOk, IsErrOf, IfSome, IsTrue, take};
 ghost use Rattle.std.specs.Option.{option_copied};
-ghost use Rattle.due_model.specs.Limits.{text_limit};
+ghost use Rattle.due_model.specs.claims.Limits.{text_limit};
 ghost use Rattle.text_lines.specs.LineReader.{to_come};
-ghost use Rattle.text_lines.specs.Lines.{Known};
+ghost use Rattle.text_lines.specs.claims.Lines.{Known};
 ghost use Rattle.text_lines.specs.Text.{FindsMark, IsParting, IsSearched, MovesHeld, is_mark};
 ghost use Rattle.text_lines.specs.Text.{rest_after};
 ghost use Rattle.text_lines.specs.Text.{mark_length, split_text, text_before, text_call_limit};

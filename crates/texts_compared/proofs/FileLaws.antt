@@ -7,9 +7,10 @@ use Rattle.written.specs.WrittenLaws.{keeps_same}
 use Rattle.command_output.specs.declared.outcome.CommandFault.{CommandFault}
 use Rattle.command_output.specs.declared.outcome.CommandFault.TheVariants.{Objects, Unreadable, Output, NoMemory}
 use Rattle.command_output.specs.declared.outcome.Ending.{Ending}
-use Rattle.command_output.specs.Outcome.{IsWriteFault}
+use Rattle.command_output.specs.claims.Outcome.{IsWriteFault}
 use Rattle.command_input.specs.InputLaws.{some_all, some_known, text_failed}
-use Rattle.command_input.specs.Objects.{CommandFails, FileFails, IsFileOf, IsTextBy}
+use Rattle.command_input.specs.claims.Objects.{CommandFails, IsTextBy}
+use Rattle.command_input.specs.Objects.{FileFails, IsFileOf}
 use Rattle.changed_notices.specs.declared.changed.ChangeForm.{ChangeForm}
 use Rattle.texts_compared.specs.declared.fault.CompareFault.{CompareFault}
 use Rattle.texts_compared.specs.declared.fault.CompareFault.TheVariants.{Command, With, WithUnreadable}

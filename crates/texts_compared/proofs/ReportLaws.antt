@@ -6,15 +6,16 @@ use Rattle.due_model.specs.declared.config.Config.{Config}
 use Rattle.due_model.specs.declared.event.Event.{Event}
 use Rattle.due_model.specs.declared.notice.Notice.{Notice}
 use Rattle.due_model.specs.declared.zone.Zone.{Zone}
-use Rattle.due_model.specs.Limits.{max_events}
+use Rattle.due_model.specs.claims.Limits.{max_events}
 use Rattle.event_feed.specs.declared.fault.FeedFault.{FeedFault}
 use Rattle.event_feed.specs.declared.fault.FeedFault.TheVariants.{Ended}
-use Rattle.event_feed.specs.Feed.{Answer, ends_feed}
+use Rattle.event_feed.specs.claims.Feed.{Answer, ends_feed}
 use Rattle.messages.specs.declared.entries.Entry.{Entry}
 use Rattle.messages.specs.declared.entries.Entry.TheVariants.{Sent, Withheld}
-use Rattle.messages.specs.Entries.{event_entries, notices_in}
+use Rattle.messages.specs.claims.Entries.{event_entries}
+use Rattle.messages.specs.Entries.{notices_in}
 use Rattle.line_forms.specs.declared.report_line.ReportLine.TheVariants.{Decided}
-use Rattle.replay.specs.Report.{ends_short, is_ended, past_after}
+use Rattle.replay.specs.claims.Report.{ends_short, is_ended, past_after}
 use Rattle.notices_compared.specs.Past.{ends_short as ends_before}
 use Rattle.report_telling.specs.Lines.{given_lines, lines_from, refusal_line}
 use Rattle.notices_compared.specs.Sides.{decided_notices, given_notices, line_notices, past_on}

@@ -7,7 +7,7 @@ use Rattle.due_model.specs.declared.zone.Zone.{Zone}
 use Rattle.command_output.specs.declared.outcome.CommandFault.{CommandFault}
 use Rattle.command_output.specs.declared.outcome.CommandFault.TheVariants.{Objects, Unreadable, Output, NoMemory}
 use Rattle.command_output.specs.declared.outcome.Ending.{Ending}
-use Rattle.command_input.specs.Objects.{CommandFails, IsFaultBy, IsTextBy}
+use Rattle.command_input.specs.claims.Objects.{CommandFails, IsFaultBy, IsTextBy}
 use Rattle.changed_notices.specs.declared.changed.ChangeForm.{ChangeForm}
 use Rattle.texts_compared.specs.declared.fault.CompareFault.{CompareFault}
 use Rattle.texts_compared.specs.declared.fault.CompareFault.TheVariants.{Command, With, WithUnreadable}

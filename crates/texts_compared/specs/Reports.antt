@@ -3,11 +3,11 @@ use Rattle.std.specs.Prelude.{◌≡◌, List, [], ◌∷◌, flat_map}
 use Rattle.due_model.specs.declared.config.Config.{Config}
 use Rattle.due_model.specs.declared.notice.Notice.{Notice}
 use Rattle.due_model.specs.declared.zone.Zone.{Zone}
-use Rattle.event_feed.specs.Feed.{Answer}
+use Rattle.event_feed.specs.claims.Feed.{Answer}
 use Rattle.messages.specs.declared.entries.Entry.TheVariants.{Sent, Withheld}
 use Rattle.line_forms.specs.declared.report_line.ReportLine.{ReportLine}
 use Rattle.line_forms.specs.declared.report_line.ReportLine.TheVariants.{Decided, Refused}
-use Rattle.replay.specs.Report.{ends_short}
+use Rattle.replay.specs.claims.Report.{ends_short}
 use Rattle.report_telling.specs.Lines.{report_lines}
 use Rattle.notices_compared.specs.Past.{ends_short as ends_before}
 use Rattle.notices_compared.specs.Sides.{line_notices}

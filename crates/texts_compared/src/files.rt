@@ -2,7 +2,7 @@
 
 ghost use Rattle.std.specs.Prelude.{◌≡◌, false, IfErr, IfOk, IfSome, IsErrOf};
 ghost use Rattle.command_output.specs.declared.outcome.CommandFault.TheVariants.{Output};
-ghost use Rattle.due_model.specs.Accepted.{IsAccepted};
+ghost use Rattle.due_model.specs.claims.Accepted.{IsAccepted};
 ghost use Rattle.command_input.specs.Objects.{IsFileOf};
 ghost use Rattle.texts_compared.specs.Files.{ComparesOf, FailsOf, SecondFails};
 ghost use Rattle.texts_compared.specs.declared.fault.CompareFault.TheVariants.{Command};

@@ -9,9 +9,9 @@ use Rattle.due_model.specs.declared.config.Dated.{Dated}
 use Rattle.due_model.specs.declared.config.DayRule.{DayRule}
 use Rattle.due_model.specs.declared.config.DayRule.TheVariants.{Date, OfMonth, OfEachMonth, WeekdayOfMonth, WeekdayOfEachMonth}
 use Rattle.due_model.specs.declared.config.Range.{Range}
-use Rattle.due_model.specs.Days.{class_of, decided, decides, lines_on, names_day, ranges_by, ranges_on}
-use Rattle.due_model.specs.Local.{Local}
-use Rattle.due_model.specs.Periods.{in_range}
+use Rattle.due_model.specs.claims.Days.{class_of, decided, decides, lines_on, names_day, ranges_by, ranges_on}
+use Rattle.due_model.specs.claims.Local.{Local}
+use Rattle.due_model.specs.claims.Periods.{in_range}
 use Rattle.time_period.specs.Classes.{IsLeast}
 use Rattle.lemmas.proofs.Elements.{Contains-cases, Contains-here, Contains-later, Contains-none}
 

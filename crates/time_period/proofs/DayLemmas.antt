@@ -10,10 +10,12 @@ use Rattle.lemmas.proofs.Lists.{slice_get_read}
 use Rattle.due_model.specs.declared.config.Period.{Period}
 use Rattle.due_model.specs.declared.config.PeriodId.{PeriodId}
 use Rattle.due_model.specs.declared.config.Range.{Range}
-use Rattle.due_model.specs.Limits.{day}
-use Rattle.due_model.specs.Periods.{in_range, weekly_ranges}
-use Rattle.time_period.specs.Days.{AreWorkedOut, IsDay, IsDayOf, IsMade, holds_any, holds_at, holds_without, in_ranges}
-use Rattle.time_period.specs.Steps.{Own, own_at}
+use Rattle.due_model.specs.claims.Limits.{day}
+use Rattle.due_model.specs.claims.Periods.{in_range, weekly_ranges}
+use Rattle.time_period.specs.claims.Days.{holds_at}
+use Rattle.time_period.specs.Days.{AreWorkedOut, IsDay, IsDayOf, IsMade, holds_any, holds_without, in_ranges}
+use Rattle.time_period.specs.claims.Steps.{Own}
+use Rattle.time_period.specs.Steps.{own_at}
 use Rattle.time_period.specs.Stretches.{Stays}
 use Rattle.time_period.proofs.StretchLemmas.{Stays-same, ended, not_begun}
 

@@ -4,12 +4,12 @@ use Rattle.std.specs.Prelude.{Contains, ◌&&◌, ◌||◌, ◌==◌}
 use Rattle.std.proofs.lemmas.List.Folds.{list_any-append}
 use Rattle.due_model.specs.declared.config.Dated.{Dated}
 use Rattle.due_model.specs.declared.config.Range.{Range}
-use Rattle.due_model.specs.Days.{class_of, names_day}
-use Rattle.due_model.specs.Limits.{day}
-use Rattle.due_model.specs.Local.{Local}
+use Rattle.due_model.specs.claims.Days.{class_of, names_day}
+use Rattle.due_model.specs.claims.Limits.{day}
+use Rattle.due_model.specs.claims.Local.{Local}
 use Rattle.time_period.specs.declared.decided.Decided.{Decided}
 use Rattle.time_period.specs.Classes.{holds_by_class, IsDecided, IsLeast}
-use Rattle.time_period.specs.Ranges.{in_ranges}
+use Rattle.time_period.specs.claims.Ranges.{in_ranges}
 use Rattle.time_period.specs.Stretches.{IsStretch, Stays}
 use Rattle.time_period.proofs.ClassLemmas.{any-none, least-kept, least-new, least-none}
 use Rattle.time_period.proofs.StretchLemmas.{Stays-same}

@@ -8,13 +8,15 @@ use Rattle.std.proofs.lemmas.Option.{slice_get_within}
 use Rattle.due_model.specs.declared.config.Config.{Config}
 use Rattle.due_model.specs.declared.config.Period.{Period}
 use Rattle.due_model.specs.declared.config.PeriodId.{PeriodId}
-use Rattle.due_model.specs.Accepted.{Excludes, IsAccepted, PeriodFits}
-use Rattle.due_model.specs.Local.{Local}
-use Rattle.due_model.specs.Periods.{holds, in_range, ranges_at}
+use Rattle.due_model.specs.claims.Accepted.{Excludes, IsAccepted, PeriodFits}
+use Rattle.due_model.specs.claims.Local.{Local}
+use Rattle.due_model.specs.claims.Periods.{holds, in_range, ranges_at}
 use Rattle.lemmas.proofs.Lists.{any_alike, All-slice_get, slice_get_read}
-use Rattle.time_period.specs.Days.{AreCompiled, IsCompiled, IsRight, IsTable, never, Worked}
+use Rattle.time_period.specs.claims.Days.{AreCompiled, IsCompiled, never, Worked}
+use Rattle.time_period.specs.Days.{IsRight, IsTable}
 use Rattle.time_period.specs.Needs.{AreForward}
-use Rattle.time_period.specs.Steps.{nothing, Own, own_at, truth}
+use Rattle.time_period.specs.claims.Steps.{Own}
+use Rattle.time_period.specs.Steps.{nothing, own_at, truth}
 use Rattle.time_period.proofs.DayLemmas.{found_at}
 use Rattle.time_period.specs.Exclusions.{AreDone, AreReady, InOrder, IsSettled}
 

@@ -9,12 +9,13 @@ use Rattle.std.proofs.lemmas.Map.Views.{Contains-from_any}
 use Rattle.std.proofs.lemmas.List.Elements.{All-contains, All-cons, All-nil, All-append, Contains-append_left, Contains-append_right}
 use Rattle.std.proofs.lemmas.Option.{slice_get_within}
 use Rattle.graph.specs.declared.edges.Edge.{Edge}
-use Rattle.graph.specs.Edges.{IsWithin, Leads}
+use Rattle.graph.specs.claims.Edges.{Leads}
+use Rattle.graph.specs.Edges.{IsWithin}
 use Rattle.graph_order.specs.Order.{HasLoop, IsOrder}
 use Rattle.due_model.specs.declared.config.Config.{Config}
 use Rattle.due_model.specs.declared.config.Period.{Period}
 use Rattle.due_model.specs.declared.config.PeriodId.{PeriodId}
-use Rattle.due_model.specs.Accepted.{Excludes, IsAccepted, PeriodFits}
+use Rattle.due_model.specs.claims.Accepted.{Excludes, IsAccepted, PeriodFits}
 use Rattle.lemmas.proofs.Lists.{All-slice_get}
 use Rattle.lemmas.proofs.Chains.{Chain-map}
 use Rattle.time_period.specs.Exclusions.{InOrder, edges_of, exclusion_edges}

@@ -6,13 +6,14 @@ use Rattle.std.proofs.lemmas.List.Elements.{All-cons, All-nil}
 use Rattle.lemmas.proofs.Elements.{Contains-cases, Contains-here, Contains-later, Contains-none}
 use Rattle.due_model.specs.declared.config.Dated.{Dated}
 use Rattle.due_model.specs.declared.config.Range.{Range}
-use Rattle.due_model.specs.Days.{class_of, names_day, ranges_on}
-use Rattle.due_model.specs.Limits.{day}
-use Rattle.due_model.specs.Local.{Local}
-use Rattle.due_model.specs.Periods.{in_range}
+use Rattle.due_model.specs.claims.Days.{class_of, names_day, ranges_on}
+use Rattle.due_model.specs.claims.Limits.{day}
+use Rattle.due_model.specs.claims.Local.{Local}
+use Rattle.due_model.specs.claims.Periods.{in_range}
 use Rattle.time_period.specs.Classes.{IsLeast}
 use Rattle.time_period.specs.Days.{IsDayOf}
-use Rattle.time_period.specs.Ranges.{IsDay, in_ranges}
+use Rattle.time_period.specs.claims.Ranges.{in_ranges}
+use Rattle.time_period.specs.Ranges.{IsDay}
 use Rattle.time_period.specs.Steps.{AreMerged, AreMergedLines, IsMerged}
 use Rattle.time_period.proofs.ClassLemmas.{day-by-class}
 

@@ -7,9 +7,11 @@ use Rattle.std.proofs.lemmas.List.Elements.{All-cons, All-contains, All-head, Al
 use Rattle.lemmas.proofs.Elements.{Contains-cases, Contains-here, Contains-later, Contains-map, Contains-none}
 use Rattle.due_model.specs.declared.config.Config.{Config}
 use Rattle.due_model.specs.declared.config.PeriodId.{PeriodId}
-use Rattle.time_period.specs.Days.{IsCompiled, IsRight, IsTable, worked_by}
+use Rattle.time_period.specs.claims.Days.{IsCompiled}
+use Rattle.time_period.specs.Days.{IsRight, IsTable, worked_by}
 use Rattle.time_period.specs.Needs.{AreClosedBy, AreClosedNeeds, IsAwaited, picked}
-use Rattle.time_period.specs.Steps.{AreClosed, is_plain, IsStepOf, nothing, numbers, Own, own_at, with_flag}
+use Rattle.time_period.specs.claims.Steps.{Own, with_flag}
+use Rattle.time_period.specs.Steps.{AreClosed, is_plain, IsStepOf, nothing, numbers, own_at}
 use Rattle.time_period.proofs.DayLemmas.{found_at}
 use Rattle.time_period.proofs.StepLemmas.{eq-from, eq-refl, plain-compiled, right-steps}
 

@@ -14,16 +14,18 @@ use Rattle.due_model.specs.declared.config.Dated.{Dated}
 use Rattle.due_model.specs.declared.config.Period.{Period}
 use Rattle.due_model.specs.declared.config.PeriodId.{PeriodId}
 use Rattle.due_model.specs.declared.config.Range.{Range}
-use Rattle.due_model.specs.Days.{names_day, ranges_on}
-use Rattle.due_model.specs.Limits.{day}
-use Rattle.due_model.specs.Local.{Local, weekday_at}
-use Rattle.due_model.specs.Periods.{in_range, weekly_ranges}
+use Rattle.due_model.specs.claims.Days.{names_day, ranges_on}
+use Rattle.due_model.specs.claims.Limits.{day}
+use Rattle.due_model.specs.claims.Local.{Local, weekday_at}
+use Rattle.due_model.specs.claims.Periods.{in_range, weekly_ranges}
 use Rattle.time_period.specs.declared.decided.Decided.{Decided}
 use Rattle.time_period.specs.Classes.{holds_by_class, IsDecided}
-use Rattle.time_period.specs.Days.{AreWorkedOut, holds_at, IsCompiled, IsRight, Worked, worked_holds}
+use Rattle.time_period.specs.claims.Days.{holds_at, IsCompiled, Worked, worked_holds}
+use Rattle.time_period.specs.Days.{AreWorkedOut, IsRight}
 use Rattle.time_period.specs.Exclusions.{AreReady, IsSettled}
-use Rattle.time_period.specs.Ranges.{in_ranges}
-use Rattle.time_period.specs.Steps.{AreClosed, AreMerged, AreMergedLines, AreSteps, at_second, flags_after, is_plain, IsOwnOf, IsSteady, IsStepOf, numbers, Own, own_at, own_holds, step_flag, truth, with_flag}
+use Rattle.time_period.specs.claims.Ranges.{in_ranges}
+use Rattle.time_period.specs.claims.Steps.{flags_after, Own, own_holds, step_flag, with_flag}
+use Rattle.time_period.specs.Steps.{AreClosed, AreMerged, AreMergedLines, AreSteps, at_second, is_plain, IsOwnOf, IsSteady, IsStepOf, numbers, own_at, truth}
 use Rattle.time_period.specs.Stretches.{Stays}
 use Rattle.time_period.proofs.ClassLemmas.{least-exists, own-by-class}
 use Rattle.time_period.proofs.MergeLemmas.{day-alike, own-alike, weekly-is}

@@ -4,8 +4,9 @@ use Rattle.std.specs.List.{list_any, AllWithin}
 use Rattle.std.proofs.lemmas.Bool.Decides.{leb_tells, nat_tests}
 use Rattle.std.proofs.lemmas.List.Folds.{list_any_none}
 use Rattle.due_model.specs.declared.config.Range.{Range}
-use Rattle.due_model.specs.Periods.{in_range}
-use Rattle.time_period.specs.Days.{IsDay, holds_at, in_ranges}
+use Rattle.due_model.specs.claims.Periods.{in_range}
+use Rattle.time_period.specs.claims.Days.{holds_at}
+use Rattle.time_period.specs.Days.{IsDay, in_ranges}
 use Rattle.time_period.specs.Stretches.{Stays}
 
 -- the same stretch, of a test that agrees

@@ -6,8 +6,8 @@ use Rattle.std.proofs.lemmas.List.Folds.{list_any-append, list_any_more}
 use Rattle.std.proofs.lemmas.List.Quantifiers.{all_pairs_push}
 use Rattle.std.proofs.lemmas.List.Sorted.{list_any-IsPermutation}
 use Rattle.due_model.specs.declared.config.Range.{Range}
-use Rattle.due_model.specs.Limits.{day}
-use Rattle.due_model.specs.Periods.{in_range}
+use Rattle.due_model.specs.claims.Limits.{day}
+use Rattle.due_model.specs.claims.Periods.{in_range}
 use Rattle.time_period.specs.Days.{closed, IsDay, IsDayOf, IsSwept, in_ranges}
 use Rattle.time_period.proofs.DayLemmas.{All-push, inside, or_false}
 use Rattle.time_period.proofs.StretchLemmas.{ended, not_begun}

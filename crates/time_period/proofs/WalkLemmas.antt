@@ -5,11 +5,11 @@ use Rattle.std.proofs.lemmas.Bool.Decides.{leb_tells}
 use Rattle.due_model.specs.declared.config.Config.{Config}
 use Rattle.due_model.specs.declared.config.PeriodId.{PeriodId}
 use Rattle.due_model.specs.declared.zone.Zone.{Zone}
-use Rattle.due_model.specs.Limits.{day}
-use Rattle.due_model.specs.Local.{Local, local, local_second}
-use Rattle.due_model.specs.Periods.{first_passing, in_period, next_in, reach_of_next}
+use Rattle.due_model.specs.claims.Limits.{day}
+use Rattle.due_model.specs.claims.Local.{Local, local, local_second}
+use Rattle.due_model.specs.claims.Periods.{first_passing, in_period, next_in, reach_of_next}
 use Rattle.zone_times.specs.Clock.{GoesOn, later}
-use Rattle.time_period.specs.Days.{IsCompiled, Worked, worked_holds}
+use Rattle.time_period.specs.claims.Days.{IsCompiled, Worked, worked_holds}
 use Rattle.time_period.specs.Stretches.{Stays}
 use Rattle.time_period.specs.Walks.{HasCome}
 

@@ -2,10 +2,10 @@
 use Rattle.std.specs.Prelude.{◌≡◌, ℕ, ◌≤◌, ◌⊎◌, ◌&&◌, ◌==◌, Bool, true, List, Contains}
 use Rattle.std.specs.List.{list_any}
 use Rattle.due_model.specs.declared.config.Dated.{Dated}
-use Rattle.due_model.specs.Days.{class_of, names_day}
-use Rattle.due_model.specs.Local.{Local}
+use Rattle.due_model.specs.claims.Days.{class_of, names_day}
+use Rattle.due_model.specs.claims.Local.{Local}
 use Rattle.time_period.specs.declared.decided.Decided.{Decided}
-use Rattle.time_period.specs.Ranges.{in_ranges}
+use Rattle.time_period.specs.claims.Ranges.{in_ranges}
 use Rattle.time_period.specs.Stretches.{IsStretch}
 
 -- the least class of the lines that pass; 6 where none does

@@ -5,11 +5,12 @@ use Rattle.graph.specs.declared.edges.Edge.{Edge}
 use Rattle.due_model.specs.declared.config.Config.{Config}
 use Rattle.due_model.specs.declared.config.Period.{Period}
 use Rattle.due_model.specs.declared.config.PeriodId.{PeriodId}
-use Rattle.due_model.specs.Accepted.{Excludes}
-use Rattle.due_model.specs.Local.{Local}
-use Rattle.due_model.specs.Periods.{in_range, ranges_at}
+use Rattle.due_model.specs.claims.Accepted.{Excludes}
+use Rattle.due_model.specs.claims.Local.{Local}
+use Rattle.due_model.specs.claims.Periods.{in_range, ranges_at}
 use Rattle.time_period.specs.Days.{IsRight}
-use Rattle.time_period.specs.Steps.{is_plain, Own, own_at, truth}
+use Rattle.time_period.specs.claims.Steps.{Own}
+use Rattle.time_period.specs.Steps.{is_plain, own_at, truth}
 
 -- the edges from one period
 abbrev pub edges_of : ℕ → List PeriodId → List Edge

@@ -1,3 +1,4 @@
+pub mod claims
 pub mod Flags
 pub mod Ranges
 pub mod Stretches

@@ -1,7 +1,8 @@
 -- The numbers of the periods that a period needs, by the steps of all periods.
 use Rattle.std.specs.Prelude.{◌≡◌, ℕ, ◌+◌, ◌<◌, ◌⊎◌, Bool, true, List, [], ◌∷◌, drop, length, map, Contains, slice_index}
 use Rattle.due_model.specs.declared.config.PeriodId.{PeriodId}
-use Rattle.time_period.specs.Steps.{Own, own_at}
+use Rattle.time_period.specs.claims.Steps.{Own}
+use Rattle.time_period.specs.Steps.{own_at}
 
 -- the steps of these numbers
 abbrev pub picked : List Own → List ℕ → List Own

@@ -1,13 +1,7 @@
 -- The ranges of a day.
-use Rattle.std.specs.Prelude.{ℕ, ◌<◌, ◌≤◌, Bool, List, All, AllPairs}
-use Rattle.std.specs.List.{list_any}
+use Rattle.std.specs.Prelude.{◌<◌, ◌≤◌, List, All, AllPairs}
 use Rattle.due_model.specs.declared.config.Range.{Range}
-use Rattle.due_model.specs.Limits.{day}
-use Rattle.due_model.specs.Periods.{in_range}
-
--- some range holds the second
-abbrev pub in_ranges : List Range → ℕ → Bool
-in_ranges ranges second = list_any (in_range second) ranges
+use Rattle.due_model.specs.claims.Limits.{day}
 
 -- ranges that aren't empty, one after the other with a gap between them, within the day
 pub record IsDay (ranges : List Range) : Type 0 where

@@ -1,32 +1,21 @@
 -- Periods from which a dated line is reached: steps, one for each period that is needed, each after those that it excludes.
-use Rattle.std.specs.Prelude.{◌≡◌, ℕ, ◌<◌, ◌≤◌, Bool, not, ◌&&◌, ◌==◌, List, [], ◌∷◌, map, All, Contains, length, slice_index_or, if◌then◌else◌}
+use Rattle.std.specs.Prelude.{◌≡◌, ℕ, ◌<◌, ◌≤◌, Bool, ◌&&◌, ◌==◌, List, [], ◌∷◌, map, All, Contains, length, slice_index_or}
 use Rattle.std.specs.List.{list_any}
 use Rattle.due_model.specs.declared.config.Config.{Config}
 use Rattle.due_model.specs.declared.config.Dated.{Dated}
 use Rattle.due_model.specs.declared.config.Period.{Period}
 use Rattle.due_model.specs.declared.config.PeriodId.{PeriodId}
 use Rattle.due_model.specs.declared.config.Range.{Range}
-use Rattle.due_model.specs.Days.{ranges_on}
-use Rattle.due_model.specs.Limits.{day, max_periods}
-use Rattle.due_model.specs.Local.{Local, weekday_at}
-use Rattle.due_model.specs.Periods.{holds, in_range, ranges_at}
-use Rattle.time_period.specs.Ranges.{IsDay, in_ranges}
+use Rattle.due_model.specs.claims.Limits.{day, max_periods}
+use Rattle.due_model.specs.claims.Local.{Local}
+use Rattle.due_model.specs.claims.Periods.{holds, in_range, ranges_at}
+use Rattle.time_period.specs.claims.Ranges.{in_ranges}
+use Rattle.time_period.specs.Ranges.{IsDay}
+use Rattle.time_period.specs.claims.Steps.{Own, own_holds, step_flag}
 
 -- another second of the same day
 abbrev pub at_second : Local → ℕ → Local
 at_second time second = record { day = time.day; second = second }
-
--- what is kept of a period: its number, its ranges and dated lines, and the periods that it excludes
-pub record Own : Type 0 where
-  pub number : ℕ
-  pub days : List (List Range)
-  pub dated : List Dated
-  pub excludes : List PeriodId
-
--- its own ranges hold at a local time
-abbrev pub own_holds : Own → Local → Bool
-own_holds own time =
-    in_ranges (ranges_on (slice_index_or own.days (weekday_at time) []) own.dated time) time.second
 
 abbrev pub nothing : Own
 nothing = record { number = 0; days = []; dated = []; excludes = [] }
@@ -38,20 +27,6 @@ own_at table n = slice_index_or table n nothing
 -- whether it is kept by its days alone
 abbrev pub is_plain : Own → Bool
 is_plain own = length own.dated == 0 && length own.excludes == 0
-
--- whether the period holds, where these flags say it of others
-abbrev pub step_flag : (ℕ → Bool) → Local → Own → Bool
-step_flag flags time own =
-    own_holds own time && not (list_any (λ excluded. flags excluded.0) own.excludes)
-
-abbrev pub with_flag : (ℕ → Bool) → (number : ℕ) → Bool → ℕ → Bool
-with_flag flags number flag n = if number == n then flag else flags n
-
--- the flags after the steps
-abbrev pub flags_after : Local → List Own → (ℕ → Bool) → ℕ → Bool
-flags_after time [] flags = flags
-flags_after time (own ∷ owns) flags =
-    flags_after time owns (with_flag flags own.number (step_flag flags time own))
 
 -- its own ranges stay as they are at a local time up to a second
 pub record IsSteady (time : Local) (end : ℕ) (own : Own) : Type 0 where

@@ -4,9 +4,10 @@ ghost use Rattle.std.specs.Prelude.{◌≡◌, ◌<◌, ◌≤◌, ◌++◌, ◌
 ghost use Rattle.std.specs.Prelude.{ℕ, All, Contains, slice_get, Some};
 ghost use Rattle.std.specs.List.{list_all};
 ghost use Rattle.due_model.specs.declared.config.Config.{Config};
-ghost use Rattle.due_model.specs.Accepted.{IsAccepted};
-ghost use Rattle.due_model.specs.Limits.{max_periods};
-ghost use Rattle.time_period.specs.Days.{AreCompiled, AreWorkedOut, IsCompiled, IsRight, IsTable};
+ghost use Rattle.due_model.specs.claims.Accepted.{IsAccepted};
+ghost use Rattle.due_model.specs.claims.Limits.{max_periods};
+ghost use Rattle.time_period.specs.claims.Days.{AreCompiled, IsCompiled};
+ghost use Rattle.time_period.specs.Days.{AreWorkedOut, IsRight, IsTable};
 ghost use Rattle.time_period.specs.Exclusions.{AreReady, InOrder, IsSettled, edges_of};
 ghost use Rattle.time_period.specs.Exclusions.{exclusion_edges, is_weekly};
 ghost use Rattle.time_period.specs.Needs.{AreForward};

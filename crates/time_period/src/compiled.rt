@@ -4,15 +4,17 @@ ghost use Rattle.std.specs.Prelude.{◌≡◌, ℕ, ◌<◌, ◌≤◌, ◌^◌,
 ghost use Rattle.std.specs.Arc.{arc_value};
 ghost use Rattle.due_model.specs.declared.config.Config.{Config};
 ghost use Rattle.due_model.specs.declared.config.PeriodId.{PeriodId};
-ghost use Rattle.due_model.specs.Limits.{day as day_length, last_moment, max_periods};
-ghost use Rattle.due_model.specs.Local.{weekday_at};
-ghost use Rattle.due_model.specs.Periods.{in_period, next_in};
+ghost use Rattle.due_model.specs.claims.Limits.{day as day_length, last_moment, max_periods};
+ghost use Rattle.due_model.specs.claims.Local.{weekday_at};
+ghost use Rattle.due_model.specs.claims.Periods.{in_period, next_in};
 ghost use Rattle.day_rules.specs.Dates.{shown};
-ghost use Rattle.time_period.specs.Days.{AreCompiled, holds_at, IsCompiled, worked_by};
-ghost use Rattle.time_period.specs.Days.{worked_holds};
+ghost use Rattle.time_period.specs.claims.Days.{AreCompiled, holds_at, IsCompiled};
+ghost use Rattle.time_period.specs.Days.{worked_by};
+ghost use Rattle.time_period.specs.claims.Days.{worked_holds};
 ghost use Rattle.time_period.specs.Flags.{flag_at};
 ghost use Rattle.time_period.specs.Needs.{picked};
-ghost use Rattle.time_period.specs.Steps.{flags_after, IsSteady};
+ghost use Rattle.time_period.specs.claims.Steps.{flags_after};
+ghost use Rattle.time_period.specs.Steps.{IsSteady};
 ghost use Rattle.time_period.specs.Stretches.{IsStretch, Stays};
 
 use crate::step::{Step, flag};
@@ -71,7 +73,8 @@ pub struct Compiled {
 
 impl Model for Compiled {
     ghost use Rattle.std.specs.Arc.{arc_value};
-    ghost use Rattle.time_period.specs.Days.{IsKeptBy, worked_by, Worked};
+    ghost use Rattle.time_period.specs.claims.Days.{Worked};
+    ghost use Rattle.time_period.specs.Days.{IsKeptBy, worked_by};
 
     ghost Value = { Worked };
 

@@ -1,7 +1,7 @@
 //! The ranges of one day.
 
 ghost use Rattle.std.specs.Prelude.{◌<◌};
-ghost use Rattle.due_model.specs.Limits.{day};
+ghost use Rattle.due_model.specs.claims.Limits.{day};
 ghost use Rattle.time_period.specs.Days.{IsDay, in_ranges};
 ghost use Rattle.time_period.specs.Stretches.{IsStretch};
 

@@ -3,8 +3,8 @@
 ghost use Rattle.std.specs.Prelude.{◌≡◌, true, List, [], ◌∷◌, ◌++◌, ◌<◌, All};
 ghost use Rattle.day_rules.specs.Dates.{shown};
 ghost use Rattle.due_model.specs.declared.config.Dated.{Dated};
-ghost use Rattle.due_model.specs.Days.{names_day};
-ghost use Rattle.due_model.specs.Limits.{day as day_length};
+ghost use Rattle.due_model.specs.claims.Days.{names_day};
+ghost use Rattle.due_model.specs.claims.Limits.{day as day_length};
 ghost use Rattle.time_period.specs.Classes.{IsDecided};
 ghost use Rattle.time_period.specs.Ranges.{IsDay};
 

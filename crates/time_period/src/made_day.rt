@@ -2,9 +2,10 @@
 
 ghost use Rattle.std.specs.Prelude.{◌≡◌, ℕ, ◌<◌, ◌≤◌, not, length, All, IfOk, IsOk};
 ghost use Rattle.std.specs.List.Sorted.{IsNonDecreasingBy};
-ghost use Rattle.due_model.specs.Limits.{day};
+ghost use Rattle.due_model.specs.claims.Limits.{day};
 ghost use Rattle.time_period.specs.Days.{closed, holds_any, holds_without, IsDayOf};
-ghost use Rattle.time_period.specs.Ranges.{IsDay, in_ranges};
+ghost use Rattle.time_period.specs.claims.Ranges.{in_ranges};
+ghost use Rattle.time_period.specs.Ranges.{IsDay};
 ghost use Rattle.time_period.specs.Stretches.{IsStretch};
 
 use crate::day::stretch_in;

@@ -3,7 +3,7 @@
 ghost use Rattle.std.specs.Prelude.{◌≡◌, ℕ, ◌<◌, ◌≤◌, ◌⊎◌, true, length, reverse, All};
 ghost use Rattle.std.specs.Prelude.{Contains, IfOk};
 ghost use Rattle.due_model.specs.declared.config.PeriodId.{PeriodId};
-ghost use Rattle.due_model.specs.Limits.{max_periods};
+ghost use Rattle.due_model.specs.claims.Limits.{max_periods};
 ghost use Rattle.time_period.specs.Flags.{flag_at};
 ghost use Rattle.time_period.specs.Needs.{AreClosedNeeds, AreForward};
 

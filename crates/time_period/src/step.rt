@@ -2,12 +2,14 @@
 
 ghost use Rattle.std.specs.Prelude.{◌≡◌, ℕ, [], ◌<◌, ◌≤◌, All, length, slice_index_or};
 ghost use Rattle.std.specs.List.{list_any};
-ghost use Rattle.due_model.specs.Limits.{day as day_length, max_periods};
+ghost use Rattle.due_model.specs.claims.Limits.{day as day_length, max_periods};
 ghost use Rattle.day_rules.specs.Dates.{shown};
 ghost use Rattle.time_period.specs.Flags.{flag_at};
-ghost use Rattle.time_period.specs.Ranges.{IsDay, in_ranges};
-ghost use Rattle.time_period.specs.Steps.{at_second, IsKept, is_plain, IsSteady, own_holds, step_flag};
-ghost use Rattle.time_period.specs.Steps.{with_flag};
+ghost use Rattle.time_period.specs.claims.Ranges.{in_ranges};
+ghost use Rattle.time_period.specs.Ranges.{IsDay};
+ghost use Rattle.time_period.specs.claims.Steps.{own_holds, step_flag};
+ghost use Rattle.time_period.specs.Steps.{at_second, IsKept, is_plain, IsSteady};
+ghost use Rattle.time_period.specs.claims.Steps.{with_flag};
 ghost use Rattle.time_period.specs.Stretches.{IsStretch};
 
 use crate::day::stretch_in;
@@ -67,7 +69,8 @@ pub(crate) struct Step {
 }
 
 impl Model for Step {
-    ghost use Rattle.time_period.specs.Steps.{IsKept, Own};
+    ghost use Rattle.time_period.specs.claims.Steps.{Own};
+    ghost use Rattle.time_period.specs.Steps.{IsKept};
 
     ghost Value = { Own };
 

@@ -1,7 +1,7 @@
 //! What is kept of a period from which a dated line is reached: its ranges in order, and the periods that it excludes.
 
 ghost use Rattle.std.specs.Prelude.{◌≡◌, ◌<◌, All, IfOk};
-ghost use Rattle.due_model.specs.Limits.{max_periods};
+ghost use Rattle.due_model.specs.claims.Limits.{max_periods};
 ghost use Rattle.time_period.specs.Steps.{AreMerged, AreMergedLines, IsOwnOf};
 
 use crate::made_day::merged;

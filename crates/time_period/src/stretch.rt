@@ -2,7 +2,7 @@
 
 ghost use Rattle.std.specs.Prelude.{◌≡◌, ℕ, ◌<◌, ◌≤◌, ◌&&◌, ◌||◌, Bool, true};
 ghost use Rattle.std.specs.Prelude.{false, not, nat_le, nat_lt};
-ghost use Rattle.due_model.specs.Limits.{day};
+ghost use Rattle.due_model.specs.claims.Limits.{day};
 
 use due_model::config::Range;
 use due_model::limits::DAY;
@@ -16,7 +16,7 @@ pub(crate) struct Stretch {
 }
 
 impl Stretch {
-    ghost use Rattle.due_model.specs.Periods.{in_range};
+    ghost use Rattle.due_model.specs.claims.Periods.{in_range};
     ghost use Rattle.time_period.specs.Stretches.{IsStretch};
 
     /// Up to the end of the day it doesn't hold.

@@ -6,15 +6,16 @@ use Rattle.std.proofs.lemmas.List.Elements.{All-nil}
 use Rattle.due_model.specs.declared.config.Config.{Config}
 use Rattle.due_model.specs.declared.zone.Zone.{Zone}
 use Rattle.due_model.specs.declared.event.Event.{Event}
-use Rattle.event_feed.specs.Feed.{Answer, Feed, answers, feed_of}
+use Rattle.event_feed.specs.claims.Feed.{Answer, Feed, answers}
+use Rattle.event_feed.specs.Feed.{feed_of}
 use Rattle.event_feed.specs.FeedLaws.{known_weaker}
 use Rattle.text_lines.specs.LineReader.{Reading, to_come}
-use Rattle.text_lines.specs.Lines.{Known, pieces}
+use Rattle.text_lines.specs.claims.Lines.{Known, pieces}
 use Rattle.steps.specs.declared.settings.Settings.{Settings}
 use Rattle.world_steps.specs.Runs.{new_world}
-use Rattle.world_steps.specs.Views.{world_setup, world_state}
-use Rattle.world_steps.specs.Worlds.{Setup, WorldState}
-use Rattle.written.specs.Written.{Leaves, Writes, WritesFront}
+use Rattle.world_steps.specs.claims.Views.{world_setup, world_state}
+use Rattle.world_steps.specs.claims.Worlds.{Setup, WorldState}
+use Rattle.written.specs.claims.Written.{Leaves, Writes, WritesFront}
 use Rattle.written.specs.WrittenLaws.{front_less, front_none, front_on, leaves_on, leaves_less}
 use Rattle.command_output.specs.declared.outcome.Ending.{Ending}
 use Rattle.command_output.specs.declared.outcome.Ending.TheVariants.{Short}

@@ -11,16 +11,17 @@ use Rattle.event_feed.specs.declared.fault.FeedFault.{FeedFault}
 use Rattle.event_feed.specs.declared.fault.FeedFault.TheVariants.{BadStamp}
 use Rattle.event_feed.specs.declared.fault.FeedFault.TheVariants as faults
 use Rattle.event_feed.specs.declared.fault.RefusedLine.{RefusedLine}
-use Rattle.event_feed.specs.Fault.{stop_fault}
+use Rattle.event_feed.specs.claims.Fault.{stop_fault}
 use Rattle.text_lines.specs.declared.line_reader.NextLine.TheVariants.{Over}
 use Rattle.text_lines.specs.declared.line_reader.Stop.{Stop}
 use Rattle.text_lines.specs.declared.line_reader.Stop.TheVariants.{InputEnded, CutLine, ReaderFailed, TooManyLines}
 use Rattle.std.proofs.lemmas.Option.{same_Some}
 use Rattle.event_feed.specs.FeedLaws.{earlier_more, fault_next, known_weaker, then_by}
-use Rattle.event_feed.specs.Feed.{Answer, AnswersNone, AreGivenBy, Feed, FeedComesTo, ComesNext, ComesTo, FaultAnswers, FaultComesTo, FaultFits, GivesEvent, GivesFault, answers_from, ends_feed, raised, refusal as answer_of, text_reading}
-use Rattle.event_feed.specs.Line.{line_reading}
-use Rattle.text_lines.specs.Lines.{Known, pieces}
-use Rattle.written.specs.Written.{Leaves, WritesFront}
+use Rattle.event_feed.specs.claims.Feed.{Answer, AreGivenBy, Feed, FeedComesTo, ComesNext, ComesTo, FaultFits, GivesEvent, GivesFault, ends_feed, raised, refusal as answer_of, text_reading}
+use Rattle.event_feed.specs.Feed.{AnswersNone, FaultAnswers, FaultComesTo, answers_from}
+use Rattle.event_feed.specs.claims.Line.{line_reading}
+use Rattle.text_lines.specs.claims.Lines.{Known, pieces}
+use Rattle.written.specs.claims.Written.{Leaves, WritesFront}
 use Rattle.written.specs.WrittenLaws.{front_on, leaves_on, leaves_all}
 use Rattle.trace.specs.declared.feed.AfterFeed.{AfterFeed}
 use Rattle.trace.specs.declared.feed.AfterFeed.TheVariants.{Steps, Nothing, Cut, Unread}

@@ -4,8 +4,8 @@ use Rattle.std.specs.List.{range_with_len}
 use Rattle.lemmas.proofs.Numbers.{flat_range_more}
 use Rattle.due_model.specs.declared.config.Config.{Config}
 use Rattle.due_model.specs.declared.notice.Notice.{Notice}
-use Rattle.command_output.specs.TraceLine.{held_line}
-use Rattle.written.specs.Written.{Leaves, WritesFront}
+use Rattle.command_output.specs.claims.TraceLine.{held_line}
+use Rattle.written.specs.claims.Written.{Leaves, WritesFront}
 use Rattle.written.specs.WrittenLaws.{front_begun, front_on, leaves_on}
 
 -- a line whose parts are the same

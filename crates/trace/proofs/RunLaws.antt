@@ -7,8 +7,8 @@ use Rattle.steps.specs.declared.step.Step.{Step}
 use Rattle.steps.specs.declared.step.Step.TheVariants.{Post}
 use Rattle.steps.specs.declared.step.StepFault.{StepFault}
 use Rattle.steps.specs.declared.step.StepFault.TheVariants.{NotEnabled}
-use Rattle.world_steps.specs.Steps.{IsEnabled}
-use Rattle.world_steps.specs.Worlds.{Setup}
+use Rattle.world_steps.specs.claims.Steps.{IsEnabled}
+use Rattle.world_steps.specs.claims.Worlds.{Setup}
 use Rattle.trace.specs.declared.step_line.StepLine.{StepLine}
 use Rattle.trace.specs.declared.step_line.StepLine.TheVariants.{PostNext}
 use Rattle.trace.specs.Run.{RunState, IsEnabledIn, step_said}

@@ -6,21 +6,23 @@ use Rattle.std.proofs.lemmas.List.{append-nil, length-append}
 use Rattle.std.proofs.lemmas.Option.{same_Some}
 use Rattle.std.proofs.lemmas.List.Elements.{All-nil, All-push}
 use Rattle.due_model.specs.declared.config.Config.{Config}
-use Rattle.command_output.specs.TraceLine.{refused_step_line}
+use Rattle.command_output.specs.claims.TraceLine.{refused_step_line}
 use Rattle.command_output.specs.declared.trace_line.StepRefusal.TheVariants.{BadStep}
-use Rattle.written.specs.Written.{Leaves, WritesFront}
+use Rattle.written.specs.claims.Written.{Leaves, WritesFront}
 use Rattle.written.specs.WrittenLaws.{front_less, leaves_on, leaves_nothing}
-use Rattle.text_lines.specs.LineReader.{byte_limit, line_limit, cut_text}
-use Rattle.text_lines.specs.Lines.{BeginsWithLine, IsUnbroken, Known}
+use Rattle.text_lines.specs.claims.LineReader.{byte_limit, cut_text}
+use Rattle.text_lines.specs.LineReader.{line_limit}
+use Rattle.text_lines.specs.claims.Lines.{Known}
+use Rattle.text_lines.specs.Lines.{BeginsWithLine, IsUnbroken}
 use Rattle.steps.specs.declared.step.Step.TheVariants.{Post, Decide, Put, Lane}
 use Rattle.steps.specs.declared.step.LaneStep.{LaneStep}
 use Rattle.steps.specs.declared.step.LaneStep.TheVariants.{Pick, Settle, Fail, Ask, Replace, Close, Drain}
-use Rattle.world_steps.specs.Worlds.{Setup}
+use Rattle.world_steps.specs.claims.Worlds.{Setup}
 use Rattle.trace.specs.declared.step_line.StepLine.{StepLine}
 use Rattle.trace.specs.declared.step_line.StepLine.TheVariants.{PostNext, Do}
 use Rattle.trace.specs.StepLine.{Spells, word_of}
 use Rattle.trace.specs.Run.{RunState, DoesLine, DoesSaid, SaidFront, Says}
-use Rattle.event_feed.specs.Feed.{feed_limit}
+use Rattle.event_feed.specs.claims.Feed.{feed_limit}
 use Rattle.trace.specs.StepLines.{AreLines, DoesLast, DoesLines, DoesNext, DoesSoFar, NextFront, StepsFront, WritesSteps, last_line, with_newline}
 
 -- ---- bytes that are known

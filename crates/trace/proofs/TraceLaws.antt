@@ -8,7 +8,7 @@ use Rattle.text_lines.specs.LineReader.{Reading, to_come}
 use Rattle.steps.specs.declared.settings.Settings.{Settings}
 use Rattle.command_output.specs.declared.outcome.CommandFault.{CommandFault}
 use Rattle.command_output.specs.declared.outcome.Ending.{Ending}
-use Rattle.command_output.specs.Outcome.{IsWriteFault}
+use Rattle.command_output.specs.claims.Outcome.{IsWriteFault}
 use Rattle.command_input.specs.InputLaws.{input_read, writing_failed}
 use Rattle.command_input.specs.Objects.{GivesObjects, objects_in}
 use Rattle.trace.specs.Trace.{FailsWith, TracesFeed, TracesFront, TracesFrontIn, TracesIn}

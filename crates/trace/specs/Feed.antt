@@ -1,16 +1,17 @@
 -- The feed of a trace, up to its mark: the events that are kept, and the lines of its refusals.
 use Rattle.std.specs.Prelude.{◌≡◌, ◌≢◌, ℕ, ◌+◌, ◌≤◌, ◌==◌, ◌⊎◌, All, Bool, true, false, List, [], ◌∷◌, ◌++◌, length, codes, if◌then◌else◌, Result, Ok, Err}
-use Rattle.due_model.specs.Limits.{max_events}
+use Rattle.due_model.specs.claims.Limits.{max_events}
 use Rattle.due_model.specs.declared.config.Object.{Object}
 use Rattle.due_model.specs.declared.event.Event.{Event}
 use Rattle.event_feed.specs.declared.fault.FeedFault.{FeedFault}
 use Rattle.event_feed.specs.declared.fault.FeedFault.TheVariants.{BadStamp, Ended, Read}
 use Rattle.event_feed.specs.declared.fault.FeedFault.TheVariants as fault
-use Rattle.event_feed.specs.Feed.{Answer, AreGiven, Feed, answers_from, ends_feed}
-use Rattle.text_lines.specs.Lines.{pieces}
+use Rattle.event_feed.specs.claims.Feed.{Answer, AreGiven, Feed, ends_feed}
+use Rattle.event_feed.specs.Feed.{answers_from}
+use Rattle.text_lines.specs.claims.Lines.{pieces}
 use Rattle.text_lines.specs.declared.line_reader.Stop.{Stop}
 use Rattle.text_lines.specs.declared.line_reader.Stop.TheVariants.{InputEnded, CutLine, ReaderFailed, TooManyCalls, TooManyBytes, TooManyLines}
-use Rattle.command_output.specs.ReportLine.{refused_line}
+use Rattle.command_output.specs.claims.ReportLine.{refused_line}
 use Rattle.trace.specs.declared.feed.AfterFeed.{AfterFeed}
 use Rattle.trace.specs.declared.feed.AfterFeed.TheVariants.{Steps, Nothing, Cut, Unread}
 

@@ -1,8 +1,9 @@
 -- What the reading of a feed does to a run.
 use Rattle.std.specs.Prelude.{◌≡◌, Bool, List, ℕ, Option}
-use Rattle.event_feed.specs.Feed.{Answer, Feed, answers_from}
-use Rattle.written.specs.Written.{Leaves, WritesFront}
-use Rattle.world_steps.specs.Views.{world_setup, world_state}
+use Rattle.event_feed.specs.claims.Feed.{Answer, Feed}
+use Rattle.event_feed.specs.Feed.{answers_from}
+use Rattle.written.specs.claims.Written.{Leaves, WritesFront}
+use Rattle.world_steps.specs.claims.Views.{world_setup, world_state}
 use Rattle.trace.specs.declared.feed.AfterFeed.{AfterFeed}
 use Rattle.trace.specs.declared.run.Run.{Run}
 use Rattle.trace.specs.Feed.{FeedBegins, FeedState, FeedEnds, FeedGoesOn, FeedSoFar, after_answers, after_answer}

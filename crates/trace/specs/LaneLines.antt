@@ -1,10 +1,10 @@
 -- The lines of what the lanes of a world hold.
 use Rattle.std.specs.Prelude.{ℕ, List, flat_map, length}
 use Rattle.std.specs.List.{range_with_len}
-use Rattle.command_output.specs.TraceLine.{held_line}
-use Rattle.steps.specs.Lanes.{about, all_taken}
-use Rattle.world_steps.specs.Lines.{decider_of}
-use Rattle.world_steps.specs.Worlds.{Setup, WorldState, lane_at, outbox_at}
+use Rattle.command_output.specs.claims.TraceLine.{held_line}
+use Rattle.steps.specs.claims.Lanes.{about, all_taken}
+use Rattle.world_steps.specs.claims.Lines.{decider_of}
+use Rattle.world_steps.specs.claims.Worlds.{Setup, WorldState, lane_at, outbox_at}
 
 -- in this state of a world: the line of what lane l holds of object o
 abbrev pub held_text : Setup → WorldState → (l o : ℕ) → List ℕ

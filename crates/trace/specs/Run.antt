@@ -1,19 +1,19 @@
 -- A run of steps in a world, and what a step line does in it.
 use Rattle.std.specs.Prelude.{◌≡◌, ℕ, ◌+◌, ◌≤◌, ◌⊎◌, All, List, [], ◌++◌, length, slice_get, Option, Some}
 use Rattle.std.specs.Option.{option_map}
-use Rattle.due_model.specs.Proper.{IsProper}
-use Rattle.due_model.specs.Limits.{max_deciders, max_lanes, max_objects}
+use Rattle.due_model.specs.claims.Proper.{IsProper}
+use Rattle.due_model.specs.claims.Limits.{max_deciders, max_lanes, max_objects}
 use Rattle.due_model.specs.declared.config.Config.{Config}
 use Rattle.due_model.specs.declared.event.Event.{Event}
-use Rattle.command_output.specs.TraceLine.{refused_step_line}
+use Rattle.command_output.specs.claims.TraceLine.{refused_step_line}
 use Rattle.command_output.specs.declared.trace_line.StepRefusal.TheVariants.{BadStep, NotEnabled}
 use Rattle.text_lines.specs.LineReader.{line_limit}
-use Rattle.written.specs.Written.{WritesFront}
+use Rattle.written.specs.claims.Written.{WritesFront}
 use Rattle.steps.specs.declared.step.Step.{Step}
 use Rattle.steps.specs.declared.step.Step.TheVariants.{Post}
-use Rattle.world_steps.specs.Steps.{IsEnabled, IsProperStep, after}
-use Rattle.world_steps.specs.Views.{world_setup, world_state}
-use Rattle.world_steps.specs.Worlds.{Setup, WorldState}
+use Rattle.world_steps.specs.claims.Steps.{IsEnabled, IsProperStep, after}
+use Rattle.world_steps.specs.claims.Views.{world_setup, world_state}
+use Rattle.world_steps.specs.claims.Worlds.{Setup, WorldState}
 use Rattle.trace.specs.declared.run.Run.{Run}
 use Rattle.trace.specs.declared.step_line.StepLine.{StepLine}
 use Rattle.trace.specs.declared.step_line.StepLine.TheVariants.{PostNext, Do}

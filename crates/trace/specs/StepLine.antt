@@ -4,14 +4,14 @@ use Rattle.std.specs.Char.{is_ascii_digit}
 use Rattle.std.specs.List.{list_all}
 use Rattle.due_model.specs.declared.config.Config.{Config}
 use Rattle.due_model.specs.declared.config.LaneId.{LaneId}
-use Rattle.event_feed.specs.Line.{digits_number}
+use Rattle.event_feed.specs.claims.Line.{digits_number}
 use Rattle.steps.specs.declared.step.Step.{Step}
 use Rattle.steps.specs.declared.step.Step.TheVariants.{Post, Decide, Put, Lane}
 use Rattle.steps.specs.declared.step.LaneStep.{LaneStep}
 use Rattle.steps.specs.declared.step.LaneStep.TheVariants.{Pick, Settle, Fail, Ask, Replace, Close, Drain}
 use Rattle.trace.specs.declared.step_line.StepLine.{StepLine}
 use Rattle.trace.specs.declared.step_line.StepLine.TheVariants.{PostNext, Do}
-use Rattle.notice_text.specs.Texts.{lane_text}
+use Rattle.notice_text.specs.claims.Texts.{lane_text}
 
 -- a decider, by decimal digits that write its number; leading zeros are allowed
 pub record IsDecider (deciders : ℕ) (d : ℕ) (text : List ℕ) : Type 0 where

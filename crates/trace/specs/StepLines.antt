@@ -1,11 +1,12 @@
 -- The step lines of a trace, and what becomes of them in order.
 use Rattle.std.specs.Prelude.{◌≡◌, ℕ, ◌+◌, ◌<◌, ◌≤◌, ◌==◌, All, Bool, true, false, List, [], ◌∷◌, ◌++◌, length, flat_map, ◌⊎◌, if◌then◌else◌, Option}
 use Rattle.due_model.specs.declared.config.Config.{Config}
-use Rattle.written.specs.Written.{Leaves, WritesFront}
-use Rattle.event_feed.specs.Feed.{feed_limit, least_at_read}
-use Rattle.text_lines.specs.LineReader.{BeginsUnbroken, byte_limit}
+use Rattle.written.specs.claims.Written.{Leaves, WritesFront}
+use Rattle.event_feed.specs.claims.Feed.{feed_limit, least_at_read}
+use Rattle.text_lines.specs.claims.LineReader.{byte_limit}
+use Rattle.text_lines.specs.LineReader.{BeginsUnbroken}
 use Rattle.text_lines.specs.Lines.{BeginsWithLine, IsUnbroken}
-use Rattle.world_steps.specs.Worlds.{Setup}
+use Rattle.world_steps.specs.claims.Worlds.{Setup}
 use Rattle.trace.specs.Run.{RunState, DoesLine}
 
 -- lines, each with its newline

@@ -4,20 +4,21 @@ use Rattle.due_model.specs.declared.config.Choices.{Choices}
 use Rattle.due_model.specs.declared.config.Config.{Config}
 use Rattle.due_model.specs.declared.zone.Zone.{Zone}
 use Rattle.due_model.specs.declared.zone.Zone.TheVariants.{Utc}
-use Rattle.event_feed.specs.Feed.{Answer, answers}
-use Rattle.text_lines.specs.Lines.{pieces}
+use Rattle.event_feed.specs.claims.Feed.{Answer, answers}
+use Rattle.text_lines.specs.claims.Lines.{pieces}
 use Rattle.steps.specs.declared.settings.Settings.{Settings}
 use Rattle.world_steps.specs.Runs.{new_world}
-use Rattle.world_steps.specs.Worlds.{Setup, setup_for}
+use Rattle.world_steps.specs.claims.Worlds.{Setup, setup_for}
 use Rattle.command_output.specs.declared.outcome.CommandFault.{CommandFault}
 use Rattle.command_output.specs.declared.outcome.Ending.{Ending}
 use Rattle.command_output.specs.declared.outcome.Ending.TheVariants.{Short, Whole}
-use Rattle.written.specs.Written.{Leaves, Writes, WritesFront}
+use Rattle.written.specs.claims.Written.{Leaves, Writes, WritesFront}
 use Rattle.trace.specs.declared.feed.AfterFeed.{AfterFeed}
 use Rattle.trace.specs.declared.feed.AfterFeed.TheVariants as feed
 use Rattle.trace.specs.Feed.{FeedBegins, FeedEnds, FeedState, after_answers}
 use Rattle.trace.specs.LaneLines.{world_text}
-use Rattle.command_input.specs.Objects.{CommandFails, IsTextBy, feed_in, objects_in}
+use Rattle.command_input.specs.claims.Objects.{CommandFails, IsTextBy}
+use Rattle.command_input.specs.Objects.{feed_in, objects_in}
 use Rattle.trace.specs.Run.{RunState}
 use Rattle.trace.specs.StepLines.{DoesFirst, DoesSteps}
 

@@ -1,10 +1,10 @@
 //! What is written after the feed of a trace, and how it ends.
 
 ghost use Rattle.std.specs.Prelude.{◌≡◌, ◌++◌, List, ℕ, IfErr, IfOk, IfSome, OnErr};
-ghost use Rattle.command_output.specs.Outcome.{IsWriteFault};
-ghost use Rattle.written.specs.Written.{Leaves};
+ghost use Rattle.command_output.specs.claims.Outcome.{IsWriteFault};
+ghost use Rattle.written.specs.claims.Written.{Leaves};
 ghost use Rattle.text_lines.specs.LineReader.{to_come};
-ghost use Rattle.world_steps.specs.Views.{world_setup};
+ghost use Rattle.world_steps.specs.claims.Views.{world_setup};
 ghost use Rattle.trace.specs.Run.{Fits, run_state};
 ghost use Rattle.trace.specs.Trace.{EndFront, WritesEnd, ending_of};
 

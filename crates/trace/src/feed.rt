@@ -2,11 +2,11 @@
 
 ghost use Rattle.std.specs.Prelude.{◌≡◌, ◌+◌, ◌<◌, ◌≤◌, ◌↔◌, ◌++◌, true};
 ghost use Rattle.std.specs.Prelude.{IfErr, IfNone, IfOk, IfSome, None, Ok, Err, OnErr, OnOk};
-ghost use Rattle.due_model.specs.Proper.{IsProper};
-ghost use Rattle.command_output.specs.Outcome.{IsWriteFault};
-ghost use Rattle.written.specs.Written.{Leaves, WritesFront};
-ghost use Rattle.event_feed.specs.Feed.{feed_limit};
-ghost use Rattle.text_lines.specs.Lines.{Known};
+ghost use Rattle.due_model.specs.claims.Proper.{IsProper};
+ghost use Rattle.command_output.specs.claims.Outcome.{IsWriteFault};
+ghost use Rattle.written.specs.claims.Written.{Leaves, WritesFront};
+ghost use Rattle.event_feed.specs.claims.Feed.{feed_limit};
+ghost use Rattle.text_lines.specs.claims.Lines.{Known};
 ghost use Rattle.trace.specs.Feed.{IsMark, added, after_stop, events_after, is_over_after};
 ghost use Rattle.trace.specs.FeedRun.{EndsFeed, GoesOn, ReadsFeed, ReadsFront, Unmoved};
 ghost use Rattle.trace.specs.Run.{Fits};

@@ -1,9 +1,9 @@
 //! What the lanes of a world hold, line by line.
 
 ghost use Rattle.std.specs.Prelude.{◌++◌, ◌<◌, length, IfErr, OnErr, OnOk};
-ghost use Rattle.command_output.specs.Outcome.{IsWriteFault};
-ghost use Rattle.written.specs.Written.{Leaves, WritesFront};
-ghost use Rattle.world_steps.specs.Views.{world_setup, world_state};
+ghost use Rattle.command_output.specs.claims.Outcome.{IsWriteFault};
+ghost use Rattle.written.specs.claims.Written.{Leaves, WritesFront};
+ghost use Rattle.world_steps.specs.claims.Views.{world_setup, world_state};
 ghost use Rattle.trace.specs.LaneLines.{held_text, lane_lines, world_text};
 ghost use Rattle.trace.specs.Run.{Fits};
 

@@ -2,10 +2,10 @@
 #![tactic(auto)]
 
 ghost use Rattle.std.specs.Prelude.{◌≡◌, ◌<◌, false, IfErr, IfOk, IfSome, IsErrOf, OnErr};
-ghost use Rattle.due_model.specs.Accepted.{IsAccepted};
+ghost use Rattle.due_model.specs.claims.Accepted.{IsAccepted};
 ghost use Rattle.due_model.specs.declared.zone.Zone.{Zone};
 ghost use Rattle.due_model.specs.Choices.{own};
-ghost use Rattle.command_output.specs.Outcome.{IsWriteFault};
+ghost use Rattle.command_output.specs.claims.Outcome.{IsWriteFault};
 ghost use Rattle.steps.specs.Settings.{max_channels};
 ghost use Rattle.text_lines.specs.LineReader.{to_come};
 ghost use Rattle.trace.specs.Trace.{FailsWith, Traces, TracesFeed, TracesFront, TracesIn};

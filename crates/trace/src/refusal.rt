@@ -1,9 +1,9 @@
 //! The line of a step line that does nothing.
 
 ghost use Rattle.std.specs.Prelude.{◌++◌, IfErr, OnOk};
-ghost use Rattle.command_output.specs.Outcome.{IsWriteFault};
-ghost use Rattle.written.specs.Written.{Leaves, WritesFront};
-ghost use Rattle.command_output.specs.TraceLine.{refused_step_line};
+ghost use Rattle.command_output.specs.claims.Outcome.{IsWriteFault};
+ghost use Rattle.written.specs.claims.Written.{Leaves, WritesFront};
+ghost use Rattle.command_output.specs.claims.TraceLine.{refused_step_line};
 
 use command_output::{CommandFault, Lines, OutputLine, Sink, StepRefusal};
 use due_model::config::Config;

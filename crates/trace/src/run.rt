@@ -1,9 +1,9 @@
 //! A run of steps in a world.
 
 ghost use Rattle.std.specs.Prelude.{◌≡◌, ◌↔◌, List, ℕ, ◌++◌, IfErr, IsErrOf, OnErr, OnOk};
-ghost use Rattle.command_output.specs.Outcome.{IsWriteFault};
-ghost use Rattle.written.specs.Written.{Leaves};
-ghost use Rattle.world_steps.specs.Views.{world_setup, world_state};
+ghost use Rattle.command_output.specs.claims.Outcome.{IsWriteFault};
+ghost use Rattle.written.specs.claims.Written.{Leaves};
+ghost use Rattle.world_steps.specs.claims.Views.{world_setup, world_state};
 ghost use Rattle.trace.specs.StepLine.{Spells};
 ghost use Rattle.trace.specs.Run.{Does, DoesSaid, Fits, IsEnabledIn, IsProperLine};
 ghost use Rattle.trace.specs.Run.{SaidFront, run_state};

@@ -4,8 +4,8 @@ ghost use Rattle.std.specs.Prelude.{◌≡◌, ◌≢◌, ◌≤◌, ℕ, List, 
 ghost use Rattle.std.specs.Prelude.{IfSome, MatchOption};
 ghost use Rattle.std.specs.Char.{is_ascii_digit};
 ghost use Rattle.std.specs.List.{list_all};
-ghost use Rattle.due_model.specs.Limits.{max_deciders, max_lanes};
-ghost use Rattle.notice_text.specs.Texts.{lane_text};
+ghost use Rattle.due_model.specs.claims.Limits.{max_deciders, max_lanes};
+ghost use Rattle.notice_text.specs.claims.Texts.{lane_text};
 ghost use Rattle.trace.specs.declared.step_line.StepLine.{StepLine};
 ghost use Rattle.trace.specs.StepLine.{BeginsWithWord, IsDecider, NamesLane, Spells, SpellsDecide};
 ghost use Rattle.trace.specs.StepLine.{SpellsLane, SpellsPut};

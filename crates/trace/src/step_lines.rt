@@ -1,10 +1,10 @@
 //! The step lines of a trace, done in order.
 
 ghost use Rattle.std.specs.Prelude.{◌≡◌, IfErr, IfNone, IfOk, IfSome, OnErr};
-ghost use Rattle.command_output.specs.Outcome.{IsWriteFault};
+ghost use Rattle.command_output.specs.claims.Outcome.{IsWriteFault};
 ghost use Rattle.text_lines.specs.LineReader.{to_come};
-ghost use Rattle.text_lines.specs.Lines.{Known};
-ghost use Rattle.world_steps.specs.Views.{world_setup};
+ghost use Rattle.text_lines.specs.claims.Lines.{Known};
+ghost use Rattle.world_steps.specs.claims.Views.{world_setup};
 ghost use Rattle.trace.specs.Run.{Fits, run_state};
 ghost use Rattle.trace.specs.StepLines.{DoesLast, DoesNext, NextFront, StepsFront, WritesSteps};
 

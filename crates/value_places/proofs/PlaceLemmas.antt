@@ -6,9 +6,9 @@ use Rattle.std.specs.Slice.{IsItemAt}
 use Rattle.std.proofs.lemmas.Option.{slice_get_read}
 use Rattle.std.proofs.lemmas.Bool.{false≢true}
 use Rattle.object_inheritance.specs.Columns.{Column}
-use Rattle.object_inheritance.specs.Inherited.{own, value}
+use Rattle.object_inheritance.specs.claims.Inherited.{own, value}
 use Rattle.object_reader.specs.declared.block.Block.{Block}
-use Rattle.object_values.specs.Values.{value_in}
+use Rattle.object_values.specs.claims.Values.{value_in}
 use Rattle.value_places.specs.Lines.{IsLineOf}
 use Rattle.value_places.specs.Origins.{AreOrigins}
 use Rattle.value_places.specs.Places.{ArePlaces, ArePlacesFrom, File, IsAnswer, IsGiversLine, IsLineText, IsPlaceOf, line_text}

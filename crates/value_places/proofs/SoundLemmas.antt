@@ -2,7 +2,7 @@
 use Rattle.std.proofs.Common.{◌≡◌, ℕ, Bool, true, false, List, Result, Ok, Err, is_ok, refl, sym, ap, subst, ◌∙◌}
 use Rattle.std.proofs.lemmas.Bool.{true≢false}
 use Rattle.std.proofs.lemmas.Option.{none-some}
-use Rattle.object_inheritance.specs.Faults as templates
+use Rattle.object_inheritance.specs.claims.Faults as templates
 use Rattle.object_inheritance.specs.declared.templates.TemplateFault.{TemplateFault}
 use Rattle.object_reader.specs.Blocks.{Gives}
 use Rattle.object_reader.specs.declared.block.Block.{Block}

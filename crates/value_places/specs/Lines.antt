@@ -2,8 +2,8 @@
 use Rattle.std.specs.Prelude.{◌≡◌, ℕ, ◌+◌, ◌-◌, ◌<◌, ◌≤◌, ◌⊎◌, Bool, true, false, ◌==◌, ◌&&◌, not, List, [], length, take, codes, slice_index, slice_index_or, if◌then◌else◌}
 use Rattle.std.specs.List.{before_first, slice_split}
 use Rattle.std.specs.Str.{bytes_eq}
-use Rattle.object_reader.specs.Blanks.{is_blank, trimmed}
-use Rattle.object_reader.specs.Joined.{ends_in_backslash, without_last}
+use Rattle.object_reader.specs.claims.Blanks.{is_blank, trimmed}
+use Rattle.object_reader.specs.claims.Joined.{ends_in_backslash, without_last}
 
 -- the lines of a text, without their newlines
 abbrev pub lines_in : (text : List ℕ) → List (List ℕ)

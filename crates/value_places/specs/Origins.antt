@@ -1,10 +1,10 @@
 -- Which blocks objects come from (chapter "Object Definitions").
 use Rattle.std.specs.Prelude.{◌≡◌, ℕ, true, false, List, [], ◌++◌, flat_map, length, map, slice_index_or}
 use Rattle.std.specs.List.{range_with_len}
-use Rattle.object_groups.specs.Objects.{objects_in}
+use Rattle.object_groups.specs.claims.Objects.{objects_in}
 use Rattle.object_reader.specs.declared.block.Block.{Block}
 use Rattle.object_reader.specs.declared.block.BlockKind.TheVariants.{Host, Service}
-use Rattle.object_services.specs.Limits.{AreHostLists}
+use Rattle.object_services.specs.claims.Limits.{AreHostLists}
 use Rattle.value_places.specs.declared.origins.Origin.{Origin}
 
 -- the host whose block stands at the place: it is its own host

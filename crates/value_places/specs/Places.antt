@@ -1,8 +1,8 @@
 -- Where values stand in object text (chapter "Object Inheritance").
 use Rattle.std.specs.Prelude.{◌≡◌, ℕ, true, List, [], ◌++◌, codes, decimal, is_some, Option, None, Some, slice_get}
 use Rattle.std.specs.List.{AllZip}
-use Rattle.object_inheritance.specs.Faults.{AreFree}
-use Rattle.object_inheritance.specs.Inherited.{own, value}
+use Rattle.object_inheritance.specs.claims.Faults.{AreFree}
+use Rattle.object_inheritance.specs.claims.Inherited.{own, value}
 use Rattle.object_reader.specs.declared.block.Block.{Block}
 use Rattle.object_services.specs.Limits.{PassesNowhere}
 use Rattle.object_values.specs.Values.{texts}

@@ -2,8 +2,8 @@
 use Rattle.std.specs.Prelude.{◌≡◌, ℕ, Bool, ◌==◌, ◌||◌, List, [], ◌∷◌, ◌++◌, flat_map, codes, is_some, map, Option, None, Some, if◌then◌else◌}
 use Rattle.std.specs.List.{range_with_len}
 use Rattle.std.specs.Option.{option_map}
-use Rattle.object_groups.specs.Objects.{objects_in}
-use Rattle.object_inheritance.specs.Inherited.{value}
+use Rattle.object_groups.specs.claims.Objects.{objects_in}
+use Rattle.object_inheritance.specs.claims.Inherited.{value}
 use Rattle.object_reader.specs.declared.block.Block.{Block}
 use Rattle.object_reader.specs.declared.block.BlockKind.TheVariants.{Contact}
 use Rattle.value_places.specs.declared.origins.Origin.{Origin}

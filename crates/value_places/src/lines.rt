@@ -2,8 +2,8 @@
 
 ghost use Rattle.std.specs.Prelude.{◌≡◌, IfOk};
 ghost use Rattle.std.specs.List.{before_first, position};
-ghost use Rattle.object_reader.specs.Blanks.{is_blank};
-ghost use Rattle.object_reader.specs.Joined.{ends_in_backslash, without_last};
+ghost use Rattle.object_reader.specs.claims.Blanks.{is_blank};
+ghost use Rattle.object_reader.specs.claims.Joined.{ends_in_backslash, without_last};
 ghost use Rattle.object_values.specs.Values.{texts};
 ghost use Rattle.value_places.specs.Lines.{begins_block, begins_with, ends_in_one, goes_on, IsLineOf};
 ghost use Rattle.value_places.specs.Lines.{line_at, lines_in, names, without_return};

@@ -2,9 +2,10 @@
 
 ghost use Rattle.std.specs.Prelude.{◌≡◌, ◌++◌, flat_map, length, map, IfErr, IfOk, OnOk};
 ghost use Rattle.std.specs.List.{range_with_len};
-ghost use Rattle.object_groups.specs.Objects.{objects_in};
+ghost use Rattle.object_groups.specs.claims.Objects.{objects_in};
 ghost use Rattle.object_reader.specs.declared.block.BlockKind.TheVariants.{Host, Service};
-ghost use Rattle.object_services.specs.Limits.{AreHostLists, IsRefusal};
+ghost use Rattle.object_services.specs.claims.Limits.{AreHostLists};
+ghost use Rattle.object_services.specs.Limits.{IsRefusal};
 ghost use Rattle.value_places.specs.Origins.{AreOrigins, host_origin, origins_of, service_origin, services_at};
 
 use object_groups::groups::{GroupKind, Groups};

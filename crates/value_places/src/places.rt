@@ -1,8 +1,8 @@
 //! Where values stand in object text.
 
 ghost use Rattle.std.specs.Prelude.{◌≡◌, List, ◌++◌, ◌∷◌, [], map, slice_get, IfOk, IfSome, OnOk, Some};
-ghost use Rattle.object_groups.specs.Objects.{objects_in};
-ghost use Rattle.object_reader.specs.Grammar.{IsObjectText};
+ghost use Rattle.object_groups.specs.claims.Objects.{objects_in};
+ghost use Rattle.object_reader.specs.claims.Grammar.{IsObjectText};
 ghost use Rattle.object_reader.specs.declared.block.Block.{Block};
 ghost use Rattle.object_reader.specs.declared.block.BlockKind.TheVariants.{Contact};
 ghost use Rattle.value_places.specs.Places.{Adds, AreAnswers, ArePlaces, ArePlacesFrom, AreSound};

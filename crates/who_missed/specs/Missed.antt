@@ -9,16 +9,16 @@ use Rattle.due_model.specs.declared.notice.Kind.{Kind}
 use Rattle.due_model.specs.declared.notice.Kind.TheVariants as kind
 use Rattle.due_model.specs.declared.zone.Zone.{Zone}
 use Rattle.due_model.specs.ByObject.{places_of}
-use Rattle.due_model.specs.Receivers.{rights_for}
-use Rattle.due_model.specs.Escalations.{has_contact}
-use Rattle.due_model.specs.Objects.{object_named}
+use Rattle.due_model.specs.claims.Receivers.{rights_for}
+use Rattle.due_model.specs.claims.Escalations.{has_contact}
+use Rattle.due_model.specs.claims.Objects.{object_named}
 use Rattle.messages.specs.declared.entries.Entry.TheVariants.{Sent, Withheld}
 use Rattle.line_forms.specs.declared.report_line.ReportLine.{ReportLine}
 use Rattle.line_forms.specs.declared.report_line.ReportLine.TheVariants.{Decided, Refused}
 use Rattle.line_forms.specs.Json.{number_json}
 use Rattle.local_text.specs.Text.{iso_text, local_text}
-use Rattle.notice_text.specs.Names.{filter_name}
-use Rattle.notice_text.specs.Texts.{contact_text, number_text}
+use Rattle.notice_text.specs.claims.Names.{filter_name}
+use Rattle.notice_text.specs.claims.Texts.{contact_text, number_text}
 use Rattle.pretty_lines.specs.Columns.{paint}
 use Rattle.who_missed.specs.declared.forms.RowForm.{RowForm}
 use Rattle.who_missed.specs.declared.forms.RowForm.TheVariants.{Json, Plain, Pretty}

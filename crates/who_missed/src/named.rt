@@ -1,10 +1,10 @@
 //! Whom a configuration names for an object.
 
 ghost use Rattle.std.specs.Prelude.{◌≡◌};
-ghost use Rattle.due_model.specs.Escalations.{has_contact};
+ghost use Rattle.due_model.specs.claims.Escalations.{has_contact};
 ghost use Rattle.std.specs.List.{list_any};
 ghost use Rattle.due_model.specs.ByObject.{places_of};
-ghost use Rattle.due_model.specs.Receivers.{rights_for};
+ghost use Rattle.due_model.specs.claims.Receivers.{rights_for};
 ghost use Rattle.who_missed.specs.Missed.{has_command, is_named, is_named_at, is_own};
 
 use due_model::config::{Config, Contact, ContactId, Object, ObjectId, Rights};

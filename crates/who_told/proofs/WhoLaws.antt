@@ -4,14 +4,14 @@ use Rattle.std.proofs.lemmas.List.{append-nil}
 use Rattle.due_model.specs.declared.config.Choices.{Choices}
 use Rattle.due_model.specs.declared.config.Config.{Config}
 use Rattle.due_model.specs.declared.zone.Zone.{Zone}
-use Rattle.event_feed.specs.Feed.{Answer, answers}
-use Rattle.text_lines.specs.Lines.{pieces}
-use Rattle.command_input.specs.Objects.{IsTextBy}
+use Rattle.event_feed.specs.claims.Feed.{Answer, answers}
+use Rattle.text_lines.specs.claims.Lines.{pieces}
+use Rattle.command_input.specs.claims.Objects.{IsTextBy}
 use Rattle.command_output.specs.declared.outcome.CommandFault.TheVariants as command
 use Rattle.command_output.specs.declared.outcome.Ending.{Ending}
-use Rattle.written.specs.Written.{Writes, WritesFront}
+use Rattle.written.specs.claims.Written.{Writes, WritesFront}
 use Rattle.written.specs.WrittenLaws.{appends_more, front_longer, front_next}
-use Rattle.replay.specs.Replay.{AreOfFeed}
+use Rattle.replay.specs.claims.Replay.{AreOfFeed}
 use Rattle.line_forms.specs.declared.report_line.ReportLine.{ReportLine}
 use Rattle.made_feed.specs.declared.Supposed.{Supposed}
 use Rattle.report_telling.specs.Lines.{report_lines}

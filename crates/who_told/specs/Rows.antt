@@ -5,7 +5,7 @@ use Rattle.due_model.specs.declared.config.Config.{Config}
 use Rattle.due_model.specs.declared.notice.Notice.{Notice}
 use Rattle.due_model.specs.declared.zone.Zone.{Zone}
 use Rattle.messages.specs.declared.entries.Entry.TheVariants.{Sent, Withheld}
-use Rattle.notice_text.specs.Texts.{contact_text, lane_text, number_text, object_text}
+use Rattle.notice_text.specs.claims.Texts.{contact_text, lane_text, number_text, object_text}
 use Rattle.local_text.specs.Text.{local_text}
 use Rattle.line_forms.specs.declared.report_line.ReportLine.{ReportLine}
 use Rattle.line_forms.specs.declared.report_line.ReportLine.TheVariants.{Decided, Refused}

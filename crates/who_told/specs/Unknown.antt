@@ -2,8 +2,8 @@
 use Rattle.std.specs.Prelude.{ℕ, Bool, not, List, find, is_some, option_map, Option, None, Some, if◌then◌else◌}
 use Rattle.std.specs.Option.{option_copied, option_map_or, option_or}
 use Rattle.due_model.specs.declared.config.Config.{Config}
-use Rattle.due_model.specs.Objects.{object_id, object_named}
-use Rattle.event_feed.specs.Line.{host_state_said, service_state_said}
+use Rattle.due_model.specs.claims.Objects.{object_id, object_named}
+use Rattle.event_feed.specs.claims.Line.{host_state_said, service_state_said}
 use Rattle.made_feed.specs.declared.Supposed.{Supposed}
 use Rattle.who_told.specs.declared.names.Unknown.{Unknown}
 use Rattle.who_told.specs.declared.names.Unknown.TheVariants.{Host, Service, HostState, ServiceState}

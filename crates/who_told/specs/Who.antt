@@ -5,15 +5,15 @@ use Rattle.std.specs.Io.KnownBytes.{Keeps}
 use Rattle.due_model.specs.declared.config.Choices.{Choices}
 use Rattle.due_model.specs.declared.config.Config.{Config}
 use Rattle.due_model.specs.declared.zone.Zone.{Zone}
-use Rattle.event_feed.specs.Feed.{Answer}
+use Rattle.event_feed.specs.claims.Feed.{Answer}
 use Rattle.made_feed.specs.declared.Supposed.{Supposed}
 use Rattle.made_feed.specs.Made.{made_feed}
-use Rattle.command_output.specs.Outcome.{IsWriteFault}
+use Rattle.command_output.specs.claims.Outcome.{IsWriteFault}
 use Rattle.command_output.specs.declared.outcome.Ending.{Ending}
-use Rattle.written.specs.Written.{Writes, WritesFront}
-use Rattle.command_input.specs.Objects.{CommandFails, IsTextBy}
-use Rattle.replay.specs.Replay.{AreOfFeed}
-use Rattle.replay.specs.Report.{ending_after}
+use Rattle.written.specs.claims.Written.{Writes, WritesFront}
+use Rattle.command_input.specs.claims.Objects.{CommandFails, IsTextBy}
+use Rattle.replay.specs.claims.Replay.{AreOfFeed}
+use Rattle.replay.specs.claims.Report.{ending_after}
 use Rattle.report_telling.specs.Lines.{report_lines}
 use Rattle.who_missed.specs.declared.forms.RowForm.{RowForm}
 use Rattle.who_missed.specs.Missed.{missed_text}

@@ -2,7 +2,7 @@
 
 ghost use Rattle.std.specs.Prelude.{◌≡◌, ◌∷◌, ◌++◌, find, is_some, not, None, IfNone, IfSome};
 ghost use Rattle.std.specs.Option.{option_copied};
-ghost use Rattle.due_model.specs.Objects.{object_named};
+ghost use Rattle.due_model.specs.claims.Objects.{object_named};
 ghost use Rattle.who_told.specs.Names.{Lacks};
 ghost use Rattle.who_told.specs.Unknown.{is_host_state, is_known, is_service_state, unknown_down, unknown_in};
 ghost use Rattle.who_told.specs.Unknown.{unknown_object, unknown_service, unknown_state};

@@ -5,7 +5,7 @@ use Rattle.std.specs.Str.{bytes_eq}
 use Rattle.due_model.specs.declared.config.ContactId.{ContactId}
 use Rattle.due_model.specs.declared.notice.Suppression.{Suppression}
 use Rattle.messages.specs.declared.entries.Entry.TheVariants.{Sent, Withheld}
-use Rattle.notice_text.specs.Names.{filter_name, kind_name, state_name}
+use Rattle.notice_text.specs.claims.Names.{filter_name, kind_name, state_name}
 use Rattle.line_forms.specs.declared.report_line.ReportLine.{ReportLine}
 use Rattle.line_forms.specs.declared.report_line.ReportLine.TheVariants.{Decided, Refused}
 use Rattle.why_told.specs.declared.attempts.Open.{Open}

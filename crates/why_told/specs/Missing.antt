@@ -2,10 +2,10 @@
 use Rattle.std.specs.Prelude.{ℕ, Bool, not, ◌&&◌, ◌||◌, List, [], ◌++◌, codes, decimal, flat_map, Option, None, Some, if◌then◌else◌}
 use Rattle.std.specs.List.{list_any, range_with_len}
 use Rattle.std.specs.Option.{option_copied}
-use Rattle.due_model.specs.Limits.{last_moment}
+use Rattle.due_model.specs.claims.Limits.{last_moment}
 use Rattle.due_model.specs.declared.config.Config.{Config}
 use Rattle.messages.specs.declared.entries.Entry.TheVariants.{Sent, Withheld}
-use Rattle.notice_text.specs.Texts.{contact_text}
+use Rattle.notice_text.specs.claims.Texts.{contact_text}
 use Rattle.line_forms.specs.declared.report_line.ReportLine.{ReportLine}
 use Rattle.line_forms.specs.declared.report_line.ReportLine.TheVariants.{Decided, Refused}
 use Rattle.pretty_lines.specs.Columns.{paint}

@@ -3,17 +3,17 @@ use Rattle.std.specs.Prelude.{◌≡◌, ℕ, Bool, not, ◌&&◌, List, [], ◌
 use Rattle.command_output.specs.declared.outcome.Ending.{Ending}
 use Rattle.due_model.specs.declared.config.Config.{Config}
 use Rattle.due_model.specs.declared.zone.Zone.{Zone}
-use Rattle.event_feed.specs.Feed.{Answer}
+use Rattle.event_feed.specs.claims.Feed.{Answer}
 use Rattle.line_forms.specs.declared.report_line.ReportLine.{ReportLine}
-use Rattle.replay.specs.Replay.{AreOfFeed}
-use Rattle.replay.specs.Report.{ending_after}
+use Rattle.replay.specs.claims.Replay.{AreOfFeed}
+use Rattle.replay.specs.claims.Report.{ending_after}
 use Rattle.report_telling.specs.Lines.{report_lines}
 use Rattle.why_told.specs.declared.attempts.Open.{Open}
 use Rattle.why_told.specs.declared.teller.Asked.{Asked}
 use Rattle.why_told.specs.Attempts.{after_line, nothing_open}
 use Rattle.why_told.specs.Teller.{is_early, is_of}
 use Rattle.why_told.specs.Why.{ending_text, line_text}
-use Rattle.written.specs.Written.{Writes, WritesFront}
+use Rattle.written.specs.claims.Written.{Writes, WritesFront}
 
 -- Of the lines of an object's report, after what is open: what each adds, and at the end how what is open then ends, given the
 -- last line before the span.

@@ -9,8 +9,8 @@ use Rattle.due_model.specs.declared.notice.Suppression.{Suppression}
 use Rattle.due_model.specs.declared.state.State.{State}
 use Rattle.due_model.specs.declared.zone.Zone.{Zone}
 use Rattle.messages.specs.declared.entries.Entry.TheVariants.{Sent, Withheld}
-use Rattle.notice_text.specs.Names.{kind_name, state_name}
-use Rattle.notice_text.specs.Texts.{contact_text, lane_text}
+use Rattle.notice_text.specs.claims.Names.{kind_name, state_name}
+use Rattle.notice_text.specs.claims.Texts.{contact_text, lane_text}
 use Rattle.line_forms.specs.declared.report_line.ReportLine.TheVariants.{Decided}
 use Rattle.line_forms.specs.Json.{json_text}
 use Rattle.local_text.specs.Text.{local_text}

@@ -3,8 +3,8 @@
 #![tactic(auto)]
 
 ghost use Rattle.std.specs.Prelude.{◌≡◌, false, IfErr, IfOk, IfSome, IsErrOf};
-ghost use Rattle.command_output.specs.Outcome.{IsWriteFault};
-ghost use Rattle.due_model.specs.Accepted.{IsAccepted};
+ghost use Rattle.command_output.specs.claims.Outcome.{IsWriteFault};
+ghost use Rattle.due_model.specs.claims.Accepted.{IsAccepted};
 ghost use Rattle.why_told.specs.Report.{TellsWhy, TellsWhyFront};
 
 mod attempts;

@@ -8,13 +8,14 @@ use Rattle.due_model.specs.declared.event.Event.{Event}
 use Rattle.due_model.specs.declared.event.EventKind.TheVariants.{Clock}
 use Rattle.due_model.specs.declared.notice.Notice.{Notice}
 use Rattle.due_laws.specs.Laws.{NoticesTellOfEvents}
-use Rattle.decider.specs.Decider.{gained}
+use Rattle.decider.specs.claims.Decider.{gained}
 use Rattle.steps.specs.declared.step.Step.{Step}
 use Rattle.steps.specs.declared.step.Step.TheVariants.{Post, Decide, Put, Lane}
-use Rattle.world_steps.specs.Worlds.{WorldState, Setup, decider_at, outbox_at}
-use Rattle.world_steps.specs.Steps.{CanDecide, CanPut, IsEnabled, after, decided, owner, past_of, with_decider, without_front}
-use Rattle.world_steps.specs.Runs.{AreEnabled, after_all, new_world}
-use Rattle.world_steps.specs.Fits.{StateFits}
+use Rattle.world_steps.specs.claims.Worlds.{WorldState, Setup, decider_at, outbox_at}
+use Rattle.world_steps.specs.claims.Steps.{CanDecide, CanPut, IsEnabled, after, decided, owner, past_of, with_decider, without_front}
+use Rattle.world_steps.specs.claims.Runs.{AreEnabled, after_all}
+use Rattle.world_steps.specs.Runs.{new_world}
+use Rattle.world_steps.specs.claims.Fits.{StateFits}
 use Rattle.world_steps.specs.Orders.{gains, put_by, puts}
 use Rattle.world_steps.proofs.NewWorlds.{new_fits, no_outbox, no_past}
 use Rattle.world_steps.proofs.OrderLaws.{nothing_else, step_fits}

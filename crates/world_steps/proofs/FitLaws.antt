@@ -6,17 +6,17 @@ use Rattle.std.proofs.lemmas.List.FromFn.{fill_by_all}
 use Rattle.std.proofs.lemmas.Option.{slice_get-get_or, slice_get_within, slice_get_read, get_or_from_slice_get}
 use Rattle.due_model.specs.declared.event.Event.{Event}
 use Rattle.due_model.specs.declared.notice.Notice.{Notice}
-use Rattle.decider.specs.Decider.{gained}
-use Rattle.decider.specs.Fits.{Kept, Fits as PastFits, kept, settings}
-use Rattle.decider.specs.Outbox.{lists, waiting_at}
+use Rattle.decider.specs.claims.Decider.{gained}
+use Rattle.decider.specs.claims.Fits.{Kept, Fits as PastFits, kept, settings}
+use Rattle.decider.specs.claims.Outbox.{lists, waiting_at}
 use Rattle.decider.specs.declared.share.Share.{Share}
 use Rattle.lemmas.proofs.Writes.{read_at}
 use Rattle.world_steps.specs.declared.deciders.KeptDecider.{KeptDecider}
 use Rattle.steps.specs.declared.lane.KeptLane.{KeptLane}
-use Rattle.world_steps.specs.Worlds.{DeciderState, WorldState, Setup, no_decider}
-use Rattle.world_steps.specs.Steps.{decided}
-use Rattle.steps.specs.Lanes.{empty_lane, lane_state}
-use Rattle.world_steps.specs.Fits.{decider_state, state_of, DeciderFits, StateFits, Fits, count}
+use Rattle.world_steps.specs.claims.Worlds.{DeciderState, WorldState, Setup, no_decider}
+use Rattle.world_steps.specs.claims.Steps.{decided}
+use Rattle.steps.specs.claims.Lanes.{empty_lane, lane_state}
+use Rattle.world_steps.specs.claims.Fits.{decider_state, state_of, DeciderFits, StateFits, Fits, count}
 use Rattle.world_steps.proofs.ListLemmas.{everywhere}
 
 -- what is kept of decider d fits

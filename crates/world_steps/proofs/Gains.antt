@@ -10,12 +10,12 @@ use Rattle.due_model.specs.declared.config.Object.{Object}
 use Rattle.due_model.specs.declared.event.Event.{Event}
 use Rattle.due_model.specs.declared.notice.Notice.{Notice}
 use Rattle.due_model.specs.declared.zone.Zone.{Zone}
-use Rattle.due_model.specs.Due.{due_for, due_at}
+use Rattle.due_model.specs.claims.Due.{due_for, due_at}
 use Rattle.due_laws.specs.Laws.{NoticesTellOfEvents, TellsOfEvent}
 use Rattle.decider.specs.declared.share.Share.{Share}
-use Rattle.decider.specs.Decider.{gain, gained}
-use Rattle.decider.specs.Share.{is_owned, owned_numbers}
-use Rattle.steps.specs.Lanes.{about}
+use Rattle.decider.specs.claims.Decider.{gain, gained}
+use Rattle.decider.specs.claims.Share.{is_owned, owned_numbers}
+use Rattle.steps.specs.claims.Lanes.{about}
 
 -- all of these are notices of object k
 abbrev pub AreAbout : ℕ → List Notice → Type 0

@@ -2,7 +2,7 @@
 use Rattle.std.proofs.Common.{◌≡◌, ℕ, List, ◌++◌, Result, Ok, Err, IfOk, sym, ap, ◌∙◌}
 use Rattle.due_model.specs.declared.notice.Notice.{Notice}
 use Rattle.steps.specs.declared.line.LineParts.{LineParts}
-use Rattle.steps.specs.Lanes.{about}
+use Rattle.steps.specs.claims.Lanes.{about}
 use Rattle.world_steps.specs.Views.{joined}
 use Rattle.world_steps.proofs.StateLaws.{about-append}
 

@@ -5,14 +5,15 @@ use Rattle.std.proofs.lemmas.List.{length-map, length-replicate, get_or-replicat
 use Rattle.std.proofs.lemmas.List.Elements.{All-nil, All-same}
 use Rattle.due_model.specs.declared.config.Object.{Object}
 use Rattle.due_model.specs.declared.notice.Notice.{Notice}
-use Rattle.due_model.specs.Due.{due, due_for}
-use Rattle.steps.specs.Lanes.{LaneState, new_lane, empty_lane}
-use Rattle.world_steps.specs.Worlds.{DeciderState, Setup, no_decider, new_decider, decider_at, outbox_at}
-use Rattle.world_steps.specs.Steps.{past_of}
-use Rattle.steps.specs.Lanes.{about, contents}
-use Rattle.world_steps.specs.Lines.{decider_of}
+use Rattle.due_model.specs.claims.Due.{due, due_for}
+use Rattle.steps.specs.claims.Lanes.{LaneState, new_lane, empty_lane}
+use Rattle.world_steps.specs.claims.Worlds.{DeciderState, Setup, no_decider, decider_at, outbox_at}
+use Rattle.world_steps.specs.Worlds.{new_decider}
+use Rattle.world_steps.specs.claims.Steps.{past_of}
+use Rattle.steps.specs.claims.Lanes.{about, contents}
+use Rattle.world_steps.specs.claims.Lines.{decider_of}
 use Rattle.world_steps.specs.Runs.{new_world}
-use Rattle.world_steps.specs.Fits.{StateFits}
+use Rattle.world_steps.specs.claims.Fits.{StateFits}
 
 -- nothing is due after no event
 nothing_due : (s : Setup) (o l : ℕ) → due s.config s.zone o l [] ≡ []

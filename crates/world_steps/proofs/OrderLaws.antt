@@ -9,11 +9,12 @@ use Rattle.due_model.specs.LaneFits.{of}
 use Rattle.due_laws.specs.Laws.{NoticesTellOfEvents}
 use Rattle.steps.specs.declared.step.Step.{Step}
 use Rattle.steps.specs.declared.step.Step.TheVariants.{Post, Decide, Put, Lane}
-use Rattle.steps.specs.Lanes.{LaneState, contents}
-use Rattle.world_steps.specs.Worlds.{WorldState, Setup, lane_at, outbox_at}
-use Rattle.world_steps.specs.Steps.{CanPut, IsEnabled, after}
-use Rattle.world_steps.specs.Runs.{AreEnabled, after_all, new_world}
-use Rattle.world_steps.specs.Fits.{StateFits}
+use Rattle.steps.specs.claims.Lanes.{LaneState, contents}
+use Rattle.world_steps.specs.claims.Worlds.{WorldState, Setup, lane_at, outbox_at}
+use Rattle.world_steps.specs.claims.Steps.{CanPut, IsEnabled, after}
+use Rattle.world_steps.specs.claims.Runs.{AreEnabled, after_all}
+use Rattle.world_steps.specs.Runs.{new_world}
+use Rattle.world_steps.specs.claims.Fits.{StateFits}
 use Rattle.world_steps.specs.Orders.{carried, put_by, puts}
 use Rattle.world_steps.proofs.NewWorlds.{lane_is, new_fits}
 use Rattle.world_steps.proofs.Shapes.{queued_law}

@@ -7,9 +7,9 @@ use Rattle.steps.specs.declared.step.Step.{Step}
 use Rattle.steps.specs.declared.step.Step.TheVariants.{Post, Decide, Put, Lane}
 use Rattle.steps.specs.declared.step.LaneStep.{LaneStep}
 use Rattle.steps.specs.declared.step.LaneStep.TheVariants.{Pick, Settle, Fail, Ask, Replace, Close, Drain}
-use Rattle.steps.specs.Lanes.{LaneState, does, empty_lane, queued}
-use Rattle.world_steps.specs.Worlds.{WorldState, Setup, lane_at, outbox_at}
-use Rattle.world_steps.specs.Steps.{IsEnabled, after, with_lane, with_decider, without_front}
+use Rattle.steps.specs.claims.Lanes.{LaneState, does, empty_lane, queued}
+use Rattle.world_steps.specs.claims.Worlds.{WorldState, Setup, lane_at, outbox_at}
+use Rattle.world_steps.specs.claims.Steps.{IsEnabled, after, with_lane, with_decider, without_front}
 use Rattle.world_steps.specs.Orders.{ended_by, ends_record}
 use Rattle.world_steps.proofs.ListLemmas.{everywhere}
 use Rattle.world_steps.proofs.OrderLaws.{nothing_else}

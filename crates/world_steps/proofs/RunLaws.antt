@@ -6,11 +6,11 @@ use Rattle.due_model.specs.declared.notice.Notice.{Notice}
 use Rattle.steps.specs.declared.step.Step.{Step}
 use Rattle.steps.specs.declared.step.Step.TheVariants.{Post, Decide, Put, Lane}
 use Rattle.steps.specs.declared.step.LaneStep.TheVariants.{Pick, Settle, Fail, Ask, Replace, Close, Drain}
-use Rattle.steps.specs.Lanes.{LaneState, empty_lane}
-use Rattle.world_steps.specs.Worlds.{WorldState, Setup, lane_at, outbox_at}
-use Rattle.steps.specs.Lanes.{picked, settled, failed, asked, replaced, closed, drained, queued}
-use Rattle.world_steps.specs.Steps.{IsEnabled, after, with_lane, with_decider, without_front}
-use Rattle.world_steps.specs.Runs.{after_all, AreEnabled, LeadsTo, ReplacedTakeNothing, ShutTakesNothing, StaysShut}
+use Rattle.steps.specs.claims.Lanes.{LaneState, empty_lane}
+use Rattle.world_steps.specs.claims.Worlds.{WorldState, Setup, lane_at, outbox_at}
+use Rattle.steps.specs.claims.Lanes.{picked, settled, failed, asked, replaced, closed, drained, queued}
+use Rattle.world_steps.specs.claims.Steps.{IsEnabled, after, with_lane, with_decider, without_front}
+use Rattle.world_steps.specs.claims.Runs.{after_all, AreEnabled, LeadsTo, ReplacedTakeNothing, ShutTakesNothing, StaysShut}
 use Rattle.world_steps.specs.Orders.{ended_by}
 use Rattle.world_steps.proofs.ListLemmas.{everywhere}
 use Rattle.world_steps.proofs.RecordLaws.{records_after}

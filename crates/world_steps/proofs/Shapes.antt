@@ -3,9 +3,9 @@ use Rattle.std.proofs.Common.{◌≡◌, List, [], ◌∷◌, ◌++◌, take, dr
 use Rattle.std.proofs.lemmas.List.{append-nil, take-append-drop}
 use Rattle.std.proofs.lemmas.List.Concat.{flat_map-append}
 use Rattle.due_model.specs.declared.notice.Notice.{Notice}
-use Rattle.steps.specs.Lanes.{LaneState}
-use Rattle.steps.specs.Lanes.{all_taken, contents, join_records}
-use Rattle.steps.specs.Lanes.{CanPick, picked, settled, replaced, closed, drained, queued}
+use Rattle.steps.specs.claims.Lanes.{LaneState}
+use Rattle.steps.specs.claims.Lanes.{all_taken, contents, join_records}
+use Rattle.steps.specs.claims.Lanes.{CanPick, picked, settled, replaced, closed, drained, queued}
 
 module _ {X : Type 0} where
   split_front : (xs ys : List X) → (xs ++ take 1 ys) ++ drop 1 ys ≡ xs ++ ys

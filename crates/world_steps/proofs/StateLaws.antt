@@ -10,21 +10,21 @@ use Rattle.due_model.specs.declared.config.LaneId.{LaneId}
 use Rattle.due_model.specs.declared.event.Event.{Event}
 use Rattle.due_model.specs.declared.event.EventKind.TheVariants.{Clock}
 use Rattle.due_model.specs.declared.notice.Notice.{Notice}
-use Rattle.due_model.specs.Due.{due}
+use Rattle.due_model.specs.claims.Due.{due}
 use Rattle.due_laws.specs.Laws.{NoticesTellOfEvents}
 use Rattle.lemmas.proofs.Lists.{past_more}
-use Rattle.decider.specs.Decider.{gained}
+use Rattle.decider.specs.claims.Decider.{gained}
 use Rattle.decider.specs.DeciderLaws.{due_more}
 use Rattle.steps.specs.declared.step.Step.TheVariants.{Post, Decide, Put, Lane}
 use Rattle.steps.specs.declared.step.LaneStep.{LaneStep}
 use Rattle.steps.specs.declared.step.LaneStep.TheVariants.{Pick, Settle, Fail, Ask, Replace, Close, Drain}
-use Rattle.steps.specs.Lanes.{LaneState, empty_lane}
-use Rattle.world_steps.specs.Worlds.{DeciderState, WorldState, Setup, no_decider, decider_at, lane_at, outbox_at}
-use Rattle.steps.specs.Lanes.{queued, picked, settled, failed, asked, replaced, closed, drained, Can, does}
-use Rattle.world_steps.specs.Steps.{after, with_lane, with_decider, decided, without_front, owner, past_of, OfLane, CanPut, CanDecide}
-use Rattle.steps.specs.Lanes.{about, contents}
-use Rattle.world_steps.specs.Lines.{line, decider_of}
-use Rattle.world_steps.specs.Fits.{StateFits}
+use Rattle.steps.specs.claims.Lanes.{LaneState, empty_lane}
+use Rattle.world_steps.specs.claims.Worlds.{DeciderState, WorldState, Setup, no_decider, decider_at, lane_at, outbox_at}
+use Rattle.steps.specs.claims.Lanes.{queued, picked, settled, failed, asked, replaced, closed, drained, Can, does}
+use Rattle.world_steps.specs.claims.Steps.{after, with_lane, with_decider, decided, without_front, owner, past_of, OfLane, CanPut, CanDecide}
+use Rattle.steps.specs.claims.Lanes.{about, contents}
+use Rattle.world_steps.specs.claims.Lines.{line, decider_of}
+use Rattle.world_steps.specs.claims.Fits.{StateFits}
 use Rattle.world_steps.proofs.ListLemmas.{everywhere}
 use Rattle.world_steps.proofs.Gains.{about_none, gained_owned, gained_is_owned}
 use Rattle.world_steps.proofs.Shapes.{picked_law, settled_law, replaced_law, closed_law, drained_law, queued_law}

@@ -8,25 +8,25 @@ use Rattle.due_model.specs.declared.config.LaneId.{LaneId}
 use Rattle.due_model.specs.declared.event.Event.{Event}
 use Rattle.due_model.specs.declared.notice.Notice.{Notice}
 use Rattle.due_model.specs.declared.zone.Zone.{Zone}
-use Rattle.due_model.specs.Limits.{max_events}
-use Rattle.due_model.specs.Proper.{IsProper}
+use Rattle.due_model.specs.claims.Limits.{max_events}
+use Rattle.due_model.specs.claims.Proper.{IsProper}
 use Rattle.due_laws.specs.Laws.{NoticesTellOfEvents}
 use Rattle.lemmas.proofs.Lists.{past_more}
 use Rattle.decider.specs.declared.share.Share.{Share}
-use Rattle.decider.specs.Decider.{gained}
-use Rattle.decider.specs.Fits.{Fits as PastFits, kept, settings}
-use Rattle.decider.specs.Outbox.{lists, waiting_at}
+use Rattle.decider.specs.claims.Decider.{gained}
+use Rattle.decider.specs.claims.Fits.{Fits as PastFits, kept, settings}
+use Rattle.decider.specs.claims.Outbox.{lists, waiting_at}
 use Rattle.lemmas.proofs.Writes.{read_at, map-set_by, map-set_kept}
 use Rattle.world_steps.specs.declared.deciders.KeptDecider.{KeptDecider}
 use Rattle.steps.specs.declared.lane.KeptLane.{KeptLane}
 use Rattle.steps.specs.declared.step.LaneStep.{LaneStep}
 use Rattle.steps.specs.declared.step.Step.TheVariants.{Decide, Put, Lane}
-use Rattle.steps.specs.Lanes.{LaneState, empty_lane}
-use Rattle.world_steps.specs.Worlds.{DeciderState, WorldState, Setup, no_decider, decider_at, outbox_at}
-use Rattle.steps.specs.Lanes.{Can, does, queued}
-use Rattle.world_steps.specs.Steps.{OfLane, CanDecide, CanPut, after, decided, next_of, owner, past_of, without_front, with_decider}
-use Rattle.steps.specs.Lanes.{lane_state}
-use Rattle.world_steps.specs.Fits.{decider_state, state_of, count, DeciderFits, Fits}
+use Rattle.steps.specs.claims.Lanes.{LaneState, empty_lane}
+use Rattle.world_steps.specs.claims.Worlds.{DeciderState, WorldState, Setup, no_decider, decider_at, outbox_at}
+use Rattle.steps.specs.claims.Lanes.{Can, does, queued}
+use Rattle.world_steps.specs.claims.Steps.{OfLane, CanDecide, CanPut, after, decided, next_of, owner, past_of, without_front, with_decider}
+use Rattle.steps.specs.claims.Lanes.{lane_state}
+use Rattle.world_steps.specs.claims.Fits.{decider_state, state_of, count, DeciderFits, Fits}
 use Rattle.world_steps.proofs.ListLemmas.{take_found}
 use Rattle.world_steps.proofs.FitLaws.{found_fits, fits_then, fits_more, kept_fits, set_found, outbox_read, decided_law, past_length}
 use Rattle.world_steps.proofs.StateLaws.{post_after, decide_after, put_after, change_after}

@@ -3,15 +3,16 @@ use Rattle.std.specs.Prelude.{◌≡◌, ℕ, ◌%◌, ◌<◌, ◌==◌, if◌t
 use Rattle.due_model.specs.declared.event.Event.{Event}
 use Rattle.due_model.specs.declared.notice.Notice.{Notice}
 use Rattle.due_model.specs.LaneFits.{LaneFits}
-use Rattle.decider.specs.Decider.{gained}
+use Rattle.decider.specs.claims.Decider.{gained}
 use Rattle.steps.specs.declared.step.Step.{Step}
 use Rattle.steps.specs.declared.step.Step.TheVariants.{Post, Decide, Put, Lane}
 use Rattle.steps.specs.declared.step.LaneStep.{LaneStep}
 use Rattle.steps.specs.declared.step.LaneStep.TheVariants.{Pick, Settle, Fail, Ask, Replace, Close, Drain}
-use Rattle.steps.specs.Lanes.{LaneState, all_taken}
-use Rattle.world_steps.specs.Worlds.{WorldState, Setup, lane_at, outbox_at}
-use Rattle.world_steps.specs.Steps.{IsEnabled, after, owner, past_of}
-use Rattle.world_steps.specs.Runs.{AreEnabled, after_all, new_world}
+use Rattle.steps.specs.claims.Lanes.{LaneState, all_taken}
+use Rattle.world_steps.specs.claims.Worlds.{WorldState, Setup, lane_at, outbox_at}
+use Rattle.world_steps.specs.claims.Steps.{IsEnabled, after, owner, past_of}
+use Rattle.world_steps.specs.claims.Runs.{AreEnabled, after_all}
+use Rattle.world_steps.specs.Runs.{new_world}
 
 -- the decider that a notice carries: that of its object
 abbrev pub carried : Setup → Notice → ℕ

@@ -1,10 +1,11 @@
 //! The deciders of a world, each with its outbox.
 
 ghost use Rattle.std.specs.Prelude.{◌≡◌, ℕ, [], Some, length, map, replicate, slice_get, IfOk};
-ghost use Rattle.due_model.specs.Accepted.{IsAccepted};
+ghost use Rattle.due_model.specs.claims.Accepted.{IsAccepted};
 ghost use Rattle.world_steps.specs.declared.deciders.KeptDecider.{KeptDecider as KeptDeciderOf};
-ghost use Rattle.world_steps.specs.Worlds.{new_decider, setup_for};
-ghost use Rattle.world_steps.specs.Fits.{decider_state, DeciderFits};
+ghost use Rattle.world_steps.specs.claims.Worlds.{setup_for};
+ghost use Rattle.world_steps.specs.Worlds.{new_decider};
+ghost use Rattle.world_steps.specs.claims.Fits.{decider_state, DeciderFits};
 
 use decider::{Decider, Outbox, Share};
 use due_model::config::Config;

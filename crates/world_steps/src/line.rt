@@ -1,8 +1,8 @@
 //! What waits in a decider's outbox of one object.
 
 ghost use Rattle.std.specs.Prelude.{◌≡◌, ◌<◌, length, IfOk};
-ghost use Rattle.decider.specs.Outbox.{lists, waiting_at};
-ghost use Rattle.steps.specs.Lanes.{about};
+ghost use Rattle.decider.specs.claims.Outbox.{lists, waiting_at};
+ghost use Rattle.steps.specs.claims.Lanes.{about};
 
 use decider::Outbox;
 use due_model::config::{LaneId, ObjectId};

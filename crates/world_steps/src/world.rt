@@ -1,7 +1,7 @@
 //! The world of steps.
 
-ghost use Rattle.world_steps.specs.Worlds.{setup_for};
-ghost use Rattle.world_steps.specs.Fits.{Fits, Fits-prop};
+ghost use Rattle.world_steps.specs.claims.Worlds.{setup_for};
+ghost use Rattle.world_steps.specs.claims.Fits.{Fits, Fits-prop};
 
 use crate::deciders::{KeptDecider, new_deciders};
 use crate::line::about_in_outbox;
@@ -33,18 +33,20 @@ pub struct World<'a> {
 impl<'a> World<'a> {
     ghost use Rattle.std.specs.Prelude.{◌≡◌, ◌↔◌, ◌<◌, ◌≤◌, length, All, IsTrue, IfOk, OnOk};
     ghost use Rattle.std.specs.Prelude.{OnErr, IfErr, IsErrOf};
-    ghost use Rattle.due_model.specs.Accepted.{IsAccepted};
-    ghost use Rattle.due_model.specs.Proper.{IsProper};
-    ghost use Rattle.due_model.specs.Due.{due};
-    ghost use Rattle.world_steps.specs.Worlds.{lane_at, outbox_at};
-    ghost use Rattle.world_steps.specs.Steps.{CanDecide, CanPut, IsEnabled, IsProperStep, after};
-    ghost use Rattle.world_steps.specs.Steps.{past_of};
-    ghost use Rattle.steps.specs.Lanes.{about, all_taken};
+    ghost use Rattle.due_model.specs.claims.Accepted.{IsAccepted};
+    ghost use Rattle.due_model.specs.claims.Proper.{IsProper};
+    ghost use Rattle.due_model.specs.claims.Due.{due};
+    ghost use Rattle.world_steps.specs.claims.Worlds.{lane_at, outbox_at};
+    ghost use Rattle.world_steps.specs.claims.Steps.{CanDecide, CanPut, IsEnabled, IsProperStep, after};
+    ghost use Rattle.world_steps.specs.claims.Steps.{past_of};
+    ghost use Rattle.steps.specs.claims.Lanes.{about, all_taken};
     ghost use Rattle.steps.specs.Settings.{max_channels};
-    ghost use Rattle.world_steps.specs.Lines.{decider_of, line, LinesAreDue, NoticesStandOnce};
-    ghost use Rattle.world_steps.specs.Runs.{new_world, LeadsTo, StopsAt};
-    ghost use Rattle.world_steps.specs.Runs.{ReplacedTakeNothing, ShutTakesNothing};
-    ghost use Rattle.world_steps.specs.Views.{world_state, world_setup, joined};
+    ghost use Rattle.world_steps.specs.claims.Lines.{decider_of, line, LinesAreDue, NoticesStandOnce};
+    ghost use Rattle.world_steps.specs.claims.Runs.{LeadsTo, StopsAt};
+    ghost use Rattle.world_steps.specs.Runs.{new_world};
+    ghost use Rattle.world_steps.specs.claims.Runs.{ReplacedTakeNothing, ShutTakesNothing};
+    ghost use Rattle.world_steps.specs.claims.Views.{world_state, world_setup};
+    ghost use Rattle.world_steps.specs.Views.{joined};
 
     /// A world of this configuration in which nothing has happened. `served` says of each lane how many channels its
     /// channel has, up to `MAX_CHANNELS`: one serves, and the others stand by. A lane without any is shut. A refused growth

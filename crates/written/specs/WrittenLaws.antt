@@ -2,7 +2,7 @@
 use Rattle.std.proofs.Common.{◌≡◌, ℕ, ◌-◌, List, [], ◌++◌, length, take, drop, Option, None, Some, refl, sym, ap, subst, ◌∙◌, append_assoc}
 use Rattle.std.proofs.lemmas.List.{append-nil, take_rest, take-append-drop}
 use Rattle.std.specs.Io.KnownBytes.{Appends, Keeps}
-use Rattle.written.specs.Written.{Leaves, WritesFront}
+use Rattle.written.specs.claims.Written.{Leaves, WritesFront}
 
 pub appends_none : (known : Option (List ℕ)) → Appends known known []
 appends_none None = tt

@@ -4,7 +4,7 @@ use Rattle.std.specs.Prelude.{int_div}
 use Rattle.jiff.specs.ZoneView.{plain_zone}
 use Rattle.due_model.specs.declared.zone.Zone.{Zone}
 use Rattle.due_model.specs.declared.zone.Zone.TheVariants.{Utc, Rules, File}
-use Rattle.due_model.specs.Local.{offset}
+use Rattle.due_model.specs.claims.Local.{offset}
 use Rattle.zone_times.specs.Changes.{SameYear, nanos, next_change}
 use Rattle.std.proofs.lemmas.Bool.Decides.{nat_tests}
 use Rattle.std.proofs.lemmas.List.Sums.{prefix_len_passes, prefix_len-le-length}

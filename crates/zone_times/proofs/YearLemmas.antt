@@ -6,7 +6,7 @@ use Rattle.jiff_core.proofs.SignedLemmas.{signed_arith}
 use Rattle.jiff_core.specs.Calendar.{days_of_years}
 use Rattle.jiff_tz.specs.Year.{years_within, year_of_day, year_of_nanos}
 use Rattle.zone_times.specs.Changes.{SameYear, nanos}
-use Rattle.due_model.specs.Limits.{day}
+use Rattle.due_model.specs.claims.Limits.{day}
 
 within_most : (n count : ℕ) → years_within n count ≤ n
 unfolding years_within

@@ -1,7 +1,7 @@
 -- A clock that goes on, on the same day; and what it remembers of its zone.
 use Rattle.std.specs.Prelude.{◌≡◌, ℕ, ◌+◌, ◌-◌, ◌<◌, ◌≤◌, ℤ, unsigned_abs}
 use Rattle.due_model.specs.declared.zone.Zone.{Zone}
-use Rattle.due_model.specs.Local.{Local, local, offset, weekday_at}
+use Rattle.due_model.specs.claims.Local.{Local, local, offset, weekday_at}
 use Rattle.zone_times.specs.declared.local.LocalTime.{LocalTime}
 
 -- so many seconds later on the same day

@@ -2,7 +2,7 @@
 //! the zone.
 
 ghost use Rattle.std.specs.Prelude.{◌≡◌, ℕ, ◌^◌, ◌<◌, ◌≤◌, unsigned_abs};
-ghost use Rattle.due_model.specs.Local.{local, offset, weekday_at};
+ghost use Rattle.due_model.specs.claims.Local.{local, offset, weekday_at};
 ghost use Rattle.zone_times.specs.Clock.{GoesOn};
 
 use crate::local::{LocalTime, clock_at, local_time, offset_at};

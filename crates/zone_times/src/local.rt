@@ -3,8 +3,8 @@
 ghost use Rattle.std.specs.Prelude.{◌≡◌, ◌^◌, ◌<◌, pos, ◌*ℤ◌, ◌+ℤ◌, unsigned_abs};
 ghost use Rattle.std.specs.Int.{int_div_euclid, int_rem_euclid};
 ghost use Rattle.jiff_core.specs.Calendar.{IsEpochDay};
-ghost use Rattle.due_model.specs.Limits.{day as day_length};
-ghost use Rattle.due_model.specs.Local.{local, offset, weekday_at};
+ghost use Rattle.due_model.specs.claims.Limits.{day as day_length};
+ghost use Rattle.due_model.specs.claims.Local.{local, offset, weekday_at};
 
 use due_model::limits::DAY;
 use due_model::zone::Zone;

@@ -1,7 +1,7 @@
 //! How long a zone's offset stays as it is, from a moment.
 
 ghost use Rattle.std.specs.Prelude.{◌≡◌, ℕ, ◌^◌, ◌<◌, ◌≤◌, ◌<ℤ◌, pos, option_map};
-ghost use Rattle.due_model.specs.Local.{offset};
+ghost use Rattle.due_model.specs.claims.Local.{offset};
 ghost use Rattle.zone_times.specs.Changes.{SameYear, next_change};
 
 use crate::local::instant;

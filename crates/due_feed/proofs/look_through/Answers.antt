@@ -1,7 +1,8 @@
 use Rattle.std.proofs.Common.{◌≡◌, None, IfOk, IsErrOf, ap, subst, ◌∙◌}
 use Rattle.due_model.specs.declared.config.Config.{Config}
 use Rattle.due_model.specs.declared.zone.Zone.{Zone}
-use Rattle.event_feed.specs.Feed.{Feed, feed_of}
+use Rattle.event_feed.specs.claims.Feed.{Feed}
+use Rattle.event_feed.specs.Feed.{feed_of}
 use Rattle.text_lines.specs.LineReader.{Reading}
 use Rattle.due_feed.specs.Seen.{IsSeen, IsStopped, unread}
 use Rattle.due_feed.specs.declared.looker.LookFault.TheVariants.{Stopped}

@@ -1,6 +1,6 @@
 use Rattle.std.proofs.Common.{◌≡◌, ◌<◌, ℕ, List, Bool, false, Option, length, ap, sym, ◌∙◌, arith}
-use Rattle.due_model.specs.Rules.{has_come}
-use Rattle.due_times.specs.Index.{at}
+use Rattle.due_model.specs.claims.Rules.{has_come}
+use Rattle.due_times.specs.claims.Index.{at}
 use Rattle.due_times.specs.Levels.{level}
 use Rattle.due_times.proofs.Next.{level_read, next_here, none_here, place_within}
 use Rattle.due_times.proofs.+next_in.Goals as goal

@@ -1,6 +1,6 @@
 use Rattle.std.proofs.Common.{◌≡◌, ◌-◌, [], length, ap, ◌∙◌, arith}
 use Rattle.std.proofs.lemmas.List.{get_or_default}
-use Rattle.due_times.specs.Index.{at}
+use Rattle.due_times.specs.claims.Index.{at}
 use Rattle.due_times.specs.Levels.{level}
 use Rattle.due_times.proofs.Tops.{least_by_top, none_by_top}
 use Rattle.due_times.proofs.first_moment.Goals as goal

@@ -1,5 +1,5 @@
 use Rattle.std.proofs.Common.{◌≡◌, ◌<◌, List, length, ap, ℕ, get_or, set, ◌∙◌, arith, length-set, Option, sym}
-use Rattle.due_times.specs.Index.{at}
+use Rattle.due_times.specs.claims.Index.{at}
 use Rattle.due_times.specs.Levels.{level}
 use Rattle.due_times.proofs.Mending.{IsMendedUpTo, mended_more, mended_there, mended_whole, set_there}
 use Rattle.due_times.proofs.Next.{level_read}

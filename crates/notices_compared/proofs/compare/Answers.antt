@@ -1,7 +1,7 @@
 use Rattle.std.proofs.Common.{[], length, ap, subst, sym, ◌∙◌}
 use Rattle.contact_tallies.specs.Tallies.{AreTallies}
 use Rattle.due_model.specs.declared.config.Config.{Config}
-use Rattle.event_feed.specs.Feed.{Feed}
+use Rattle.event_feed.specs.claims.Feed.{Feed}
 use Rattle.notices_compared.proofs.CompareLaws.{compared_of_feed, front_of_feed, front_of_nothing}
 use Rattle.notices_compared.proofs.compare.Goals as goal
 

@@ -1,6 +1,6 @@
 use Rattle.std.proofs.Common.{ap, inl}
 use Rattle.std.proofs.lemmas.Result.{err_from_is_err_and}
-use Rattle.event_feed.specs.Feed.{Feed}
+use Rattle.event_feed.specs.claims.Feed.{Feed}
 use Rattle.written.specs.WrittenLaws.{keeps_same}
 use Rattle.command_input.specs.InputLaws.{some_all}
 use Rattle.report_telling.specs.Told.{form_of}

@@ -1,6 +1,6 @@
 use Rattle.std.proofs.Common.{ap}
 use Rattle.std.proofs.lemmas.Result.{err_from_is_err_and}
-use Rattle.event_feed.specs.Feed.{Feed}
+use Rattle.event_feed.specs.claims.Feed.{Feed}
 use Rattle.report_telling.specs.Told.{form_of}
 use Rattle.report_telling.specs.TellsLaws.{front_of_feed, front_of_nothing, telling_of_feed}
 use Rattle.report_telling.proofs.tell_feed.Goals as goal

@@ -1,8 +1,8 @@
 use Rattle.std.proofs.Common.{◌≡◌, refl}
-use Rattle.engine.specs.Feed.{ahead_in}
-use Rattle.engine.specs.Lanes.{AreTold, channels_on, count_of}
-use Rattle.written.specs.Written.{WritesFront}
-use Rattle.run_command.specs.Report.{IsRun, report_text}
+use Rattle.engine.specs.claims.Feed.{ahead_in}
+use Rattle.engine.specs.claims.Lanes.{AreTold, channels_on, count_of}
+use Rattle.written.specs.claims.Written.{WritesFront}
+use Rattle.run_command.specs.claims.Report.{IsRun, report_text}
 use Rattle.run_command.proofs.LoggedLaws.{if_cut}
 use Rattle.run_command.proofs.ReportLaws.{if_told}
 use Rattle.run_command.proofs.run.Goals as goal

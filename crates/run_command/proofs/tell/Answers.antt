@@ -1,9 +1,9 @@
 use Rattle.std.proofs.Common.{List, ◌++◌, subst}
 use Rattle.due_model.specs.declared.notice.Suppression.{Suppression}
-use Rattle.engine.specs.Lanes.{LaneParts}
+use Rattle.engine.specs.claims.Lanes.{LaneParts}
 use Rattle.event_feed.specs.declared.fault.RefusedLine.{RefusedLine}
-use Rattle.written.specs.Written.{Leaves, WritesFront}
-use Rattle.run_command.specs.Report.{lanes_text, log_text, refused_text}
+use Rattle.written.specs.claims.Written.{Leaves, WritesFront}
+use Rattle.run_command.specs.claims.Report.{lanes_text, log_text, refused_text}
 use Rattle.run_command.proofs.ReportLaws.{first_cut, last_cut, report_made, second_cut, third_cut}
 use Rattle.run_command.proofs.tell.Goals as goal
 

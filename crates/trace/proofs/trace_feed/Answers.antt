@@ -1,9 +1,9 @@
 use Rattle.std.proofs.Common.{◌≡◌, ◌+◌, ◌≤◌, false, List, ℕ, length, replicate, refl, ap, ◌∙◌, arith}
 use Rattle.std.proofs.lemmas.List.Elements.{All-same, All-replicate}
-use Rattle.event_feed.specs.Feed.{Feed}
+use Rattle.event_feed.specs.claims.Feed.{Feed}
 use Rattle.steps.specs.Settings.{max_channels}
 use Rattle.text_lines.specs.LineReader.{to_come}
-use Rattle.text_lines.specs.Lines.{Known}
+use Rattle.text_lines.specs.claims.Lines.{Known}
 use Rattle.world_steps.specs.Runs.{new_world}
 use Rattle.trace.specs.declared.run.Run.{Run}
 use Rattle.trace.specs.FeedRun.{ReadsFeed}

@@ -1,8 +1,8 @@
 use Rattle.std.proofs.Common.{◌*◌, ◌+◌, ap, inl, refl, ◌∙◌, List, ℕ, Option}
 use Rattle.std.specs.Option.{option_copied}
 use Rattle.std.proofs.lemmas.Result.{IfOk-weaker}
-use Rattle.event_feed.specs.Feed.{answers}
-use Rattle.text_lines.specs.Lines.{pieces}
+use Rattle.event_feed.specs.claims.Feed.{answers}
+use Rattle.text_lines.specs.claims.Lines.{pieces}
 use Rattle.written.specs.WrittenLaws.{front_none}
 use Rattle.who_told.specs.Who.{week_feed}
 use Rattle.who_told.proofs.WhoLaws.{same_missing, tells_missing, tells_missing_front}

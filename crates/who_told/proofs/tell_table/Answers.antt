@@ -1,7 +1,7 @@
 use Rattle.std.proofs.Common.{inl, refl, ◌∙◌}
 use Rattle.std.proofs.lemmas.Result.{IfOk-weaker}
-use Rattle.event_feed.specs.Feed.{answers}
-use Rattle.text_lines.specs.Lines.{pieces}
+use Rattle.event_feed.specs.claims.Feed.{answers}
+use Rattle.text_lines.specs.claims.Lines.{pieces}
 use Rattle.written.specs.WrittenLaws.{front_none}
 use Rattle.who_told.specs.Who.{supposed_feed}
 use Rattle.who_told.proofs.WhoLaws.{tells_table, tells_table_front}

@@ -1,7 +1,7 @@
 use Rattle.std.proofs.Common.{◌≡◌, List, length}
 use Rattle.due_model.specs.declared.event.Event.{Event}
-use Rattle.decider.specs.Fits.{Fits, kept, settings}
-use Rattle.decider.specs.Outbox.{lists}
+use Rattle.decider.specs.claims.Fits.{Fits, kept, settings}
+use Rattle.decider.specs.claims.Outbox.{lists}
 use Rattle.acceptance_deciders.proofs.said.decided.Given as goal
 
 -- the decider fits what it decided

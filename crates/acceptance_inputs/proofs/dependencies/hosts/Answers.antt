@@ -1,7 +1,7 @@
 use Rattle.std.proofs.Common.{◌≡◌, ◌∙◌, length, map, ap, arith}
 use Rattle.std.proofs.lemmas.List.{length-map, take_all}
 use Rattle.std.proofs.lemmas.Result.{IfOk-weaker}
-use Rattle.due_model.specs.Limits.{max_objects}
+use Rattle.due_model.specs.claims.Limits.{max_objects}
 use Rattle.acceptance_inputs.specs.Tables.{object_of}
 use Rattle.acceptance_inputs.proofs.dependencies.hosts.Goals as goal
 

@@ -1,6 +1,6 @@
 use Rattle.std.proofs.Common.{◌∙◌, ◌++◌, map, take, ap, refl}
 use Rattle.std.proofs.lemmas.Result.{IfOk-weaker}
-use Rattle.due_model.specs.Limits.{max_objects}
+use Rattle.due_model.specs.claims.Limits.{max_objects}
 use Rattle.acceptance_inputs.specs.Tables.{object_of}
 use Rattle.acceptance_inputs.proofs.rows.objects_of.Goals as goal
 

@@ -4,7 +4,7 @@ use Rattle.std.proofs.lemmas.List.Elements.{All-more, All-same}
 use Rattle.due_model.specs.declared.event.EventKind.TheVariants.{Clock}
 use Rattle.steps.specs.declared.step.Step.{Step}
 use Rattle.steps.specs.declared.step.Step.TheVariants.{Post}
-use Rattle.world_steps.specs.Steps.{IsProperStep}
+use Rattle.world_steps.specs.claims.Steps.{IsProperStep}
 use Rattle.acceptance_rules.proofs.worlds.are_proper_steps.Goals as goal
 
 pub loop-step-preserved : goal.loop-step-preserved

@@ -1,5 +1,5 @@
 use Rattle.std.proofs.Common.{All, take}
-use Rattle.world_steps.specs.Steps.{IsProperStep}
+use Rattle.world_steps.specs.claims.Steps.{IsProperStep}
 use Rattle.acceptance_rules.proofs.worlds.are_proper_steps.Given as goal
 
 abbrev pub invariant-loop-step : goal.invariant-loop-step

@@ -1,6 +1,6 @@
 use Rattle.std.proofs.Common.{rules, [], Some, sym, ◌∙◌}
 use Rattle.std.proofs.lemmas.List.Elements.{All-cons, All-nil}
-use Rattle.due_model.specs.Proper.{IsProper}
+use Rattle.due_model.specs.claims.Proper.{IsProper}
 use Rattle.caller_feeds.specs.FeedLaws.{same_end_then}
 use Rattle.caller_feeds.proofs.ProperLemmas.{given_proper}
 use Rattle.caller_feeds.proofs.TakenLemmas.{counted-passed, proper-passed}

@@ -1,6 +1,6 @@
 use Rattle.std.proofs.Common.{◌≡◌, ℕ, ◌+◌, ◌-◌, List, [], ◌∷◌, ◌++◌, codes, length, take, sym, ap, ◌∙◌, arith, append_assoc, length-append}
 use Rattle.std.proofs.lemmas.List.{take_at}
-use Rattle.channel.specs.Letter.{line, number_lines, subject_lines}
+use Rattle.channel.specs.claims.Letter.{line, number_lines, subject_lines}
 use Rattle.channel.proofs.letter.again_is_a_line.Goals as goal
 
 pub returns : goal.returns

@@ -1,6 +1,6 @@
 -- The definitions compute.
 use Rattle.std.proofs.Common.{refl}
-use Rattle.due_model.specs.Histories.{hist}
+use Rattle.due_model.specs.claims.Histories.{hist}
 use Rattle.choice_rows.proofs.rows.worked_choices.Goals as goal
 
 pub returns-clause-host_down_own : goal.returns-clause-host_down_own

@@ -1,6 +1,6 @@
 use Rattle.std.proofs.Common.{◌≡◌, ◌<◌, ℕ, codes, rules, subst, sym, IfNone, None, Option, Some}
 use Rattle.clap.specs.Matches.{first_value, found_of}
-use Rattle.steps.specs.Settings.{AreSettings}
+use Rattle.steps.specs.claims.Settings.{AreSettings}
 use Rattle.command_line.specs.Words.{HoldsNumber}
 use Rattle.command_line.proofs.run.run_request.Goals as goal
 

@@ -1,5 +1,5 @@
 use Rattle.std.proofs.Common.{◌≡◌, ◌++◌, flat_map, take}
-use Rattle.command_output.specs.Fields.{after_comma}
+use Rattle.command_output.specs.claims.Fields.{after_comma}
 use Rattle.command_output.proofs.fields.push_others.Given as goal
 
 abbrev pub invariant-loop-notice : goal.invariant-loop-notice

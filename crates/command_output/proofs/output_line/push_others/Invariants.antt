@@ -1,6 +1,6 @@
 use Rattle.std.proofs.Common.{◌≡◌, ◌++◌, take}
 use Rattle.command_output.specs.LineHead.{entry_head, head_text}
-use Rattle.command_output.specs.OutputLine.{entries_text}
+use Rattle.command_output.specs.claims.OutputLine.{entries_text}
 use Rattle.command_output.proofs.output_line.push_others.Given as goal
 
 abbrev pub invariant-loop-entry : goal.invariant-loop-entry

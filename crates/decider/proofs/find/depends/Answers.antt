@@ -2,7 +2,8 @@ use Rattle.std.proofs.Common.{sym, ap, ◌∙◌}
 use Rattle.due_model.specs.declared.state.State.{State}
 use Rattle.dependency.specs.Entry.{state_of}
 use Rattle.decider.specs.Found.{depends_by}
-use Rattle.decider.specs.Statuses.{StatusLists, hard_by, with_state}
+use Rattle.decider.specs.claims.Statuses.{StatusLists}
+use Rattle.decider.specs.Statuses.{hard_by, with_state}
 use Rattle.decider.proofs.FoundLaws.{depends_with, depends_without, hard_named}
 use Rattle.decider.proofs.StatusLaws.{named_within, put_back}
 use Rattle.decider.proofs.find.depends.Goals as goal

@@ -1,7 +1,7 @@
 use Rattle.std.proofs.Common.{Bool, false, ◌&&◌, Option, None, Some, sym, ap, ◌∙◌}
 use Rattle.due_model.specs.declared.config.Object.{Object}
 use Rattle.due_model.specs.declared.config.ObjectId.{ObjectId}
-use Rattle.due_model.specs.Dependencies.{dependency_fails}
+use Rattle.due_model.specs.claims.Dependencies.{dependency_fails}
 use Rattle.dependency.specs.Entry.{state_of}
 use Rattle.decider.specs.Found.{host_depends}
 use Rattle.decider.proofs.FoundLaws.{settings_read}

@@ -3,7 +3,7 @@ use Rattle.due_model.specs.declared.config.Object.{Object}
 use Rattle.due_model.specs.declared.config.ObjectId.{ObjectId}
 use Rattle.due_model.specs.declared.event.EventKind.{EventKind}
 use Rattle.due_model.specs.declared.rules.ObjectStatus.{ObjectStatus}
-use Rattle.due_model.specs.Readings.{hard_after, is_problem_state}
+use Rattle.due_model.specs.claims.Readings.{hard_after, is_problem_state}
 use Rattle.decider.specs.Found.{is_host_problem}
 use Rattle.decider.proofs.FoundLaws.{settings_read}
 use Rattle.decider.proofs.find.is_host_problem.Goals as goal

@@ -1,7 +1,7 @@
 use Rattle.std.proofs.Common.{sym, ap, ◌∙◌, ◌&&◌}
 use Rattle.due_model.specs.declared.rules.ObjectStatus.{ObjectStatus}
-use Rattle.due_model.specs.Readings.{is_problem_state}
-use Rattle.due_model.specs.Rules.{same_state}
+use Rattle.due_model.specs.claims.Readings.{is_problem_state}
+use Rattle.due_model.specs.claims.Rules.{same_state}
 use Rattle.decider.specs.Found.{names}
 use Rattle.decider.specs.Statuses.{hard_by}
 use Rattle.lemmas.proofs.Lists.{some_at}

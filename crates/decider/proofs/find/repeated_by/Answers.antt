@@ -2,8 +2,8 @@ use Rattle.std.proofs.Common.{Bool, true, false, cond, None, Option, sym, ap, â—
 use Rattle.due_model.specs.declared.config.Object.{Object}
 use Rattle.due_model.specs.declared.config.ObjectId.{ObjectId}
 use Rattle.due_model.specs.declared.rules.ObjectStatus.{ObjectStatus}
-use Rattle.due_model.specs.Readings.{is_problem_state}
-use Rattle.due_model.specs.Rules.{same_state}
+use Rattle.due_model.specs.claims.Readings.{is_problem_state}
+use Rattle.due_model.specs.claims.Rules.{same_state}
 use Rattle.decider.specs.Found.{names}
 use Rattle.decider.proofs.FoundLaws.{named_where, settings_read, turned}
 use Rattle.decider.proofs.find.repeated_by.Goals as goal

@@ -1,5 +1,5 @@
 use Rattle.std.proofs.Common.{◌≡◌, ◌≤◌, ℕ, drop, length}
-use Rattle.due_times.specs.Index.{at}
+use Rattle.due_times.specs.claims.Index.{at}
 use Rattle.decider.specs.Ready.{entry_decided}
 use Rattle.decider.proofs.ready.mark.Given as goal
 

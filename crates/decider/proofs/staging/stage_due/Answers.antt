@@ -1,10 +1,10 @@
 use Rattle.std.proofs.Common.{◌<◌, ◌+◌, ℕ, length, subst, sym, ◌∙◌, arith}
 use Rattle.std.proofs.lemmas.Option.{slice_get_within}
 use Rattle.lemmas.proofs.Numbers.{flat_below}
-use Rattle.messages.specs.Entries.{object_entries}
+use Rattle.messages.specs.claims.Entries.{object_entries}
 use Rattle.decider.specs.Books.{new_books}
 use Rattle.decider.specs.Events.{values}
-use Rattle.decider.specs.Share.{is_owned}
+use Rattle.decider.specs.claims.Share.{is_owned}
 use Rattle.decider.specs.Staging.{Adds}
 use Rattle.decider.proofs.ReadyLaws.{adds_all, adds_due, found_due}
 use Rattle.decider.proofs.StagingLaws.{at_same}

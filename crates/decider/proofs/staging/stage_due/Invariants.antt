@@ -1,10 +1,10 @@
 use Rattle.std.proofs.Common.{◌≡◌, ◌≤◌, ◌-◌, List, length}
 use Rattle.due_model.specs.declared.event.Event.{Event}
 use Rattle.lemmas.proofs.Numbers.{flat_below}
-use Rattle.messages.specs.Entries.{object_entries}
+use Rattle.messages.specs.claims.Entries.{object_entries}
 use Rattle.decider.specs.Books.{new_books}
 use Rattle.decider.specs.Events.{IsAt, values}
-use Rattle.decider.specs.Share.{is_owned}
+use Rattle.decider.specs.claims.Share.{is_owned}
 use Rattle.decider.specs.Staging.{Adds}
 use Rattle.decider.proofs.staging.stage_due.Given as goal
 

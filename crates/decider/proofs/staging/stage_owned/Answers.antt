@@ -1,7 +1,7 @@
 use Rattle.std.proofs.Common.{Bool, cond, [], sym, ap, ◌∙◌}
 use Rattle.std.proofs.lemmas.Result.{on_ok_weaker}
 use Rattle.lemmas.proofs.Lists.{some_at}
-use Rattle.messages.specs.Entries.{object_entries}
+use Rattle.messages.specs.claims.Entries.{object_entries}
 use Rattle.decider.specs.Books.{new_books}
 use Rattle.decider.specs.Events.{values}
 use Rattle.decider.proofs.BookLaws.{touched_books}

@@ -1,9 +1,9 @@
 use Rattle.std.proofs.Common.{rules, subst, ◌≡◌, ◌<◌, ◌++◌, ◌∷◌, ℕ, List, length}
 use Rattle.due_model.specs.declared.event.Event.{Event}
 use Rattle.due_model.specs.declared.notice.Suppression.{Suppression}
-use Rattle.decider.specs.Decider.{gained, suppressed_gained}
-use Rattle.decider.specs.Fits.{Fits, kept}
-use Rattle.decider.specs.Outbox.{lists, waiting_at}
+use Rattle.decider.specs.claims.Decider.{gained, suppressed_gained}
+use Rattle.decider.specs.claims.Fits.{Fits, kept}
+use Rattle.decider.specs.claims.Outbox.{lists, waiting_at}
 use Rattle.decider_thread.specs.Made.{suppressed}
 use Rattle.decider_thread.proofs.StandLaws.{stands_more, stands_noted}
 use Rattle.decider_thread.proofs.events.decide_event.Goals as goal

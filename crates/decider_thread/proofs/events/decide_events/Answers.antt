@@ -1,8 +1,8 @@
 use Rattle.std.proofs.Common.{rules, true, false, sym, subst, ap, ◌∙◌, ◌≡◌, ◌++◌, ◌∷◌, [], List, length, slice_index_or}
 use Rattle.due_model.specs.declared.notice.Notice.{Notice}
 use Rattle.rtrb.specs.Ring.{SameConsumer, received}
-use Rattle.decider.specs.Fits.{Kept, kept}
-use Rattle.decider.specs.Outbox.{lists, waiting_at}
+use Rattle.decider.specs.claims.Fits.{Kept, kept}
+use Rattle.decider.specs.claims.Outbox.{lists, waiting_at}
 use Rattle.decider_thread.specs.declared.Signal.{Signal}
 use Rattle.decider_thread.specs.declared.Signal.TheVariants.{Decides, Over}
 use Rattle.decider_thread.specs.Decided.{HasStopped}

@@ -2,8 +2,8 @@ use Rattle.std.proofs.Common.{◌≡◌, [], false, List, length}
 use Rattle.due_model.specs.declared.event.Event.{Event}
 use Rattle.due_model.specs.declared.zone.Zone.{Zone}
 use Rattle.rtrb.specs.Ring.{SameConsumer, received}
-use Rattle.decider.specs.Fits.{kept}
-use Rattle.decider.specs.Outbox.{lists, waiting_at}
+use Rattle.decider.specs.claims.Fits.{kept}
+use Rattle.decider.specs.claims.Outbox.{lists, waiting_at}
 use Rattle.decider_thread.specs.Decided.{Stands, heard}
 use Rattle.decider_thread.proofs.events.decide_events.Given as goal
 

@@ -1,6 +1,6 @@
 use Rattle.std.proofs.Common.{rules, ◌≡◌, ◌++◌, ◌∙◌, List, [], sym, ap, append-nil}
 use Rattle.due_model.specs.declared.notice.Suppression.{Suppression}
-use Rattle.decider.specs.Fits.{kept}
+use Rattle.decider.specs.claims.Fits.{kept}
 use Rattle.decider_thread.proofs.events.note.Goals as goal
 
 -- what was told before, then what is told now

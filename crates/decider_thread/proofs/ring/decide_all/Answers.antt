@@ -2,8 +2,9 @@ use Rattle.std.proofs.Common.{rules, ◌≡◌, ◌<◌, ◌++◌, ◌∙◌, Li
 use Rattle.std.proofs.lemmas.List.{get_or-replicate, length-replicate}
 use Rattle.due_model.specs.declared.notice.Notice.{Notice}
 use Rattle.rtrb.specs.Ring.{received}
-use Rattle.decider.specs.Fits.{HasDecidedNothing, kept}
-use Rattle.decider.specs.Outbox.{lists, waiting_at}
+use Rattle.decider.specs.claims.Fits.{kept}
+use Rattle.decider.specs.Fits.{HasDecidedNothing}
+use Rattle.decider.specs.claims.Outbox.{lists, waiting_at}
 use Rattle.decider_thread.proofs.HeardLaws.{heard_after}
 use Rattle.decider_thread.proofs.PutLaws.{same_waits}
 use Rattle.decider_thread.proofs.StandLaws.{begins}

@@ -1,5 +1,5 @@
 use Rattle.std.proofs.Common.{◌≡◌, ◌<◌, ◌+◌, drop, length, map, sum}
-use Rattle.decider.specs.Outbox.{lists}
+use Rattle.decider.specs.claims.Outbox.{lists}
 use Rattle.decider_thread.specs.Puts.{waiting_count}
 use Rattle.decider_thread.proofs.seats.is_full.Given as goal
 

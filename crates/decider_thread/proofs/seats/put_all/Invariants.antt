@@ -1,6 +1,6 @@
 use Rattle.std.proofs.Common.{◌≡◌, ℕ, List, length}
 use Rattle.due_model.specs.declared.notice.Notice.{Notice}
-use Rattle.decider.specs.Outbox.{lists, waiting_at}
+use Rattle.decider.specs.claims.Outbox.{lists, waiting_at}
 use Rattle.decider_thread.specs.Puts.{ArePut}
 use Rattle.decider_thread.proofs.seats.put_all.Given as goal
 

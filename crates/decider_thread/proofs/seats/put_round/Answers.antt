@@ -1,6 +1,6 @@
 use Rattle.std.proofs.Common.{rules, sym, subst, ◌∙◌}
 use Rattle.std.proofs.lemmas.List.{length-set}
-use Rattle.decider.specs.Outbox.{waiting_at}
+use Rattle.decider.specs.claims.Outbox.{waiting_at}
 use Rattle.decider_thread.specs.declared.seats.Seat.{Seat}
 use Rattle.decider_thread.specs.Puts.{Puts}
 use Rattle.decider_thread.proofs.PutLaws.{at_place, put_one}

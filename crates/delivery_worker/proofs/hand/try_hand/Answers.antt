@@ -1,7 +1,7 @@
 use Rattle.std.proofs.Common.{rules, ◌≡◌, [], ◌∷◌, List, refl, subst, sym}
 use Rattle.std.specs.Option.{option_to_list}
 use Rattle.due_model.specs.declared.notice.Notice.{Notice}
-use Rattle.delivery_worker.specs.Offers.{AreSettling}
+use Rattle.delivery_worker.specs.claims.Offers.{AreSettling}
 use Rattle.delivery_worker.proofs.OfferLaws.{same_hand, settles_if, vain_if}
 use Rattle.delivery_worker.proofs.hand.try_hand.Goals as goal
 

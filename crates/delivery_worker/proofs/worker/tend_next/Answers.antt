@@ -1,9 +1,9 @@
 use Rattle.std.proofs.Common.{rules, ◌≡◌, ◌++◌, [], List, Bool, true, false, map, refl, sym, ap, ◌∙◌, subst, append-nil, inl}
-use Rattle.channel.specs.Channels.{Account, receipt_of}
+use Rattle.channel.specs.claims.Channels.{Account, receipt_of}
 use Rattle.due_model.specs.declared.notice.Notice.{Notice}
 use Rattle.undelivered.specs.Record.{Record}
 use Rattle.undelivered.specs.declared.Why.TheVariants.{Failed}
-use Rattle.delivery_worker.specs.Attempts.{HasFailed}
+use Rattle.delivery_worker.specs.claims.Attempts.{HasFailed}
 use Rattle.delivery_worker.specs.Picked.{next_record}
 use Rattle.delivery_worker.proofs.OfferLaws.{takes_all}
 use Rattle.delivery_worker.proofs.worker.tend_next.Goals as goal

@@ -2,9 +2,9 @@ use Rattle.std.proofs.Common.{◌≡◌, ◌∙◌, ◌&&◌, true, false, ap, s
 use Rattle.std.specs.Prelude.{None}
 use Rattle.std.proofs.lemmas.List.Elements.{All-get_or}
 use Rattle.due_model.specs.declared.config.Dependency.{Dependency}
-use Rattle.due_model.specs.Accepted.{DependencyFits}
-use Rattle.due_model.specs.Dependencies.{fails_at}
-use Rattle.due_model.specs.Periods.{in_period}
+use Rattle.due_model.specs.claims.Accepted.{DependencyFits}
+use Rattle.due_model.specs.claims.Dependencies.{fails_at}
+use Rattle.due_model.specs.claims.Periods.{in_period}
 use Rattle.dependency.specs.Entry.{fails_by, state_of}
 use Rattle.dependency.proofs.WalkLemmas.{Gains-more, Gains-none, any_none-more, fits-own, masters_of-invalid, masters_of-valid}
 use Rattle.dependency.proofs.search.follow.Goals as goal

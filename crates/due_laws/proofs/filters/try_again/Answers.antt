@@ -6,7 +6,7 @@ use Rattle.due_model.specs.declared.notice.Filter.{Filter}
 use Rattle.due_model.specs.declared.rules.Last.{Last}
 use Rattle.due_model.specs.declared.zone.Zone.{Zone}
 use Rattle.due_model.specs.declared.notice.Filter.TheVariants as filter
-use Rattle.due_model.specs.Histories.{hist, retry_after}
+use Rattle.due_model.specs.claims.Histories.{hist, retry_after}
 use Rattle.due_laws.specs.Retries.{waits_a_minute}
 use Rattle.due_laws.proofs.filters.try_again.Goals as goal
 

@@ -1,8 +1,8 @@
 use Rattle.std.proofs.Common.{◌≡◌, slice_get, add-one, ap, ◌∙◌, sym, filter_map}
-use Rattle.due_model.specs.Histories.{notice_of, notices_sent}
+use Rattle.due_model.specs.claims.Histories.{notice_of, notices_sent}
 use Rattle.due_laws.specs.Laws.{last_problem, number_carried, up_to}
 use Rattle.due_laws.proofs.Problems.{problem_follows, numbers_go_up, gaps_are_kept, due_for_numbered}
-use Rattle.due_model.specs.Due.{due_for}
+use Rattle.due_model.specs.claims.Due.{due_for}
 use Rattle.due_laws.proofs.EachNotice.{due_each}
 use Rattle.due_laws.proofs.laws.follow_in_problem.Goals as goal
 

@@ -1,6 +1,6 @@
 use Rattle.std.proofs.Common.{reverse, ap, ◌∙◌}
 use Rattle.std.proofs.lemmas.List.{reverse-append}
-use Rattle.due_model.specs.Due.{due, sup}
+use Rattle.due_model.specs.claims.Due.{due, sup}
 use Rattle.due_laws.proofs.Growth.{due-append, sup-append}
 use Rattle.due_laws.proofs.laws.only_grows.Goals as goal
 

@@ -1,5 +1,5 @@
 use Rattle.std.proofs.Common.{slice_get, get_or}
-use Rattle.due_model.specs.Due.{due}
+use Rattle.due_model.specs.claims.Due.{due}
 use Rattle.due_laws.proofs.NoticeOrder.{due_in_order, before_is_other}
 use Rattle.due_laws.proofs.laws.stand_once.Goals as goal
 

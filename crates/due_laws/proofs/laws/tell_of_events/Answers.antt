@@ -1,10 +1,10 @@
 use Rattle.std.proofs.Common.{◌≡◌, ◌<◌, slice_get, true, false, Some}
-use Rattle.due_model.specs.Due.{due_for}
+use Rattle.due_model.specs.claims.Due.{due_for}
 use Rattle.due_laws.specs.Laws.{TellsOfEvent, NothingHoldsBack, up_to, last_problem}
 use Rattle.due_model.specs.declared.config.ObjectId.{ObjectId}
-use Rattle.due_model.specs.Histories.{notices_sent}
-use Rattle.due_model.specs.Readings.{hard, is_problem_state}
-use Rattle.due_model.specs.Rules.{is_of_problem, is_recovery}
+use Rattle.due_model.specs.claims.Histories.{notices_sent}
+use Rattle.due_model.specs.claims.Readings.{hard, is_problem_state}
+use Rattle.due_model.specs.claims.Rules.{is_of_problem, is_recovery}
 use Rattle.due_laws.proofs.Problems.{due_for_recoveries}
 use Rattle.due_laws.proofs.EachNotice.{due_each, due_for_hosts, due_for_tells, due_for_held_back}
 use Rattle.due_laws.proofs.laws.tell_of_events.Goals as goal

@@ -1,6 +1,6 @@
 -- The definitions compute.
 use Rattle.std.proofs.Common.{refl}
-use Rattle.due_model.specs.Histories.{hist}
+use Rattle.due_model.specs.claims.Histories.{hist}
 use Rattle.due_laws.proofs.rows.worked_filters.Goals as goal
 
 pub returns-clause-downtime : goal.returns-clause-downtime

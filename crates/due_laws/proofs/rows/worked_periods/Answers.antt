@@ -4,9 +4,9 @@ use Rattle.std.proofs.lemmas.Bool.{lt-leb, and_left, and_right, cases_lt}
 use Rattle.std.specs.List.{list_any}
 use Rattle.due_model.specs.declared.config.Range.{Range}
 use Rattle.due_model.specs.declared.zone.Zone.TheVariants.{Utc}
-use Rattle.due_model.specs.Histories.{hist}
-use Rattle.due_model.specs.Local.{local, weekday_at}
-use Rattle.due_model.specs.Periods.{in_range, in_period, first_passing, next_in}
+use Rattle.due_model.specs.claims.Histories.{hist}
+use Rattle.due_model.specs.claims.Local.{local, weekday_at}
+use Rattle.due_model.specs.claims.Periods.{in_range, in_period, first_passing, next_in}
 use Rattle.due_laws.specs.Rows.{work_hours}
 use Rattle.due_laws.proofs.rows.worked_periods.Goals as goal
 

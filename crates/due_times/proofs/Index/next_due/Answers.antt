@@ -1,5 +1,5 @@
 use Rattle.std.proofs.Common.{◌≡◌, ap, sym, ◌∙◌}
-use Rattle.due_times.specs.Index.{Due}
+use Rattle.due_times.specs.claims.Index.{Due}
 use Rattle.due_times.specs.Levels.{leaves}
 use Rattle.due_times.proofs.Next.{not_due, nothing_by_first}
 use Rattle.due_times.proofs.Index.next_due.Goals as goal

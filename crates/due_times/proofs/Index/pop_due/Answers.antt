@@ -1,5 +1,5 @@
 use Rattle.std.proofs.Common.{◌≡◌, ap, ◌∙◌}
-use Rattle.due_times.specs.Index.{Due, at}
+use Rattle.due_times.specs.claims.Index.{Due, at}
 use Rattle.due_times.specs.Levels.{leaves}
 use Rattle.due_times.proofs.Index.pop_due.Goals as goal
 

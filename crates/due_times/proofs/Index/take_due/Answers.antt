@@ -1,6 +1,7 @@
 use Rattle.std.proofs.Common.{◌≡◌, ◌+◌, true, ◌∙◌, arith}
-use Rattle.due_model.specs.Rules.{has_come}
-use Rattle.due_times.specs.Index.{at, due_count}
+use Rattle.due_model.specs.claims.Rules.{has_come}
+use Rattle.due_times.specs.claims.Index.{at}
+use Rattle.due_times.specs.Index.{due_count}
 use Rattle.due_times.proofs.Next.{count_none, count_removed, counted_all, counted_more, counted_small, first_come, left_same}
 use Rattle.due_times.proofs.Index.take_due.Goals as goal
 

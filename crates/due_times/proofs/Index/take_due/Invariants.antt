@@ -1,5 +1,6 @@
 use Rattle.std.proofs.Common.{◌≡◌, ◌+◌, ◌%◌, ◌^◌, ◌<◌, ℕ, length}
-use Rattle.due_times.specs.Index.{at, due_count, left_at}
+use Rattle.due_times.specs.claims.Index.{at}
+use Rattle.due_times.specs.Index.{due_count, left_at}
 use Rattle.due_times.proofs.Index.take_due.Given as goal
 
 abbrev pub invariant-loop-object : goal.invariant-loop-object

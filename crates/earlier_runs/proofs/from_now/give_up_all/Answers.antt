@@ -3,7 +3,7 @@ use Rattle.std.specs.Arc.{arc_value}
 use Rattle.due_feed.specs.Seen.{due_of, past_of, unread}
 use Rattle.due_model.specs.declared.config.Config.{Config}
 use Rattle.due_model.specs.declared.config.LaneId.{LaneId}
-use Rattle.event_feed.specs.Feed.{Answer, AreGivenBy}
+use Rattle.event_feed.specs.claims.Feed.{Answer, AreGivenBy}
 use Rattle.earlier_runs.specs.FromNow.{HasGivenUp}
 use Rattle.earlier_runs.proofs.GivenLaws.{gives_up}
 use Rattle.earlier_runs.proofs.from_now.give_up_all.Goals as goal

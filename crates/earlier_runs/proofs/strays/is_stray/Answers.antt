@@ -1,5 +1,5 @@
 use Rattle.std.proofs.Common.{◌≡◌, ◌<◌, ◌≤◌, ℕ, List, arith, length, min, rules, subst, sym, true}
-use Rattle.notice_text.specs.Texts.{lane_text}
+use Rattle.notice_text.specs.claims.Texts.{lane_text}
 use Rattle.earlier_runs.specs.Strays.{IsNameOf, is_journal_name}
 use Rattle.earlier_runs.proofs.LeftLaws.{none_more}
 use Rattle.earlier_runs.proofs.strays.is_stray.Goals as goal

@@ -1,5 +1,5 @@
 use Rattle.std.proofs.Common.{ℕ, ◌<◌}
-use Rattle.notice_text.specs.Texts.{lane_text}
+use Rattle.notice_text.specs.claims.Texts.{lane_text}
 use Rattle.earlier_runs.specs.Strays.{IsNameOf}
 use Rattle.earlier_runs.proofs.strays.is_stray.Given as goal
 

@@ -1,13 +1,15 @@
 use Rattle.std.proofs.Common.{rules, ◌≡◌, ◌∙◌, ap, length, Bool, List, Option, is_some, subst, sym, true, false, true≢false, ℕ}
 use Rattle.std.proofs.lemmas.List.Elements.{All-nil}
 use Rattle.due_model.specs.declared.event.Event.{Event}
-use Rattle.event_feed.specs.Fault.{is_ahead}
+use Rattle.event_feed.specs.claims.Fault.{is_ahead}
 use Rattle.event_feed.specs.declared.fault.RefusedLine.{RefusedLine}
-use Rattle.engine.specs.Feed.{IsStart, NoneIsAhead, ahead_in}
-use Rattle.engine.specs.Lanes.{channels_on, count_of}
+use Rattle.engine.specs.claims.Feed.{NoneIsAhead, ahead_in}
+use Rattle.engine.specs.Feed.{IsStart}
+use Rattle.engine.specs.claims.Lanes.{channels_on, count_of}
 use Rattle.engine.specs.Logs.{given_logs}
-use Rattle.engine.specs.Run.{IsReadOf, IsToldRunOf}
-use Rattle.engine.specs.Unread.{HasStarted, IsUnread}
+use Rattle.engine.specs.claims.Run.{IsReadOf}
+use Rattle.engine.specs.Run.{IsToldRunOf}
+use Rattle.engine.specs.claims.Unread.{HasStarted, IsUnread}
 use Rattle.engine.proofs.ChannelLaws.{none_told}
 use Rattle.engine.proofs.IntakeLaws.{none_since, taken_since}
 use Rattle.engine.proofs.RunEndLaws.{none_told_ran, read_is, unread_is}

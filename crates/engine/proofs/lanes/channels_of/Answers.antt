@@ -1,7 +1,7 @@
 use Rattle.std.proofs.Common.{rules, arith, ◌≡◌, ◌<◌, ◌∙◌, ◌++◌, ◌∷◌, [], ap, length, slice_get, Some, subst, sym}
 use Rattle.std.proofs.lemmas.Option.{slice_get_within}
 use Rattle.lemmas.proofs.Lists.{some_at}
-use Rattle.engine.specs.Lanes.{channels_on}
+use Rattle.engine.specs.claims.Lanes.{channels_on}
 use Rattle.engine.proofs.PostLaws.{channels_more, taken_all, taken_more, taken_none}
 use Rattle.engine.proofs.lanes.channels_of.Goals as goal
 

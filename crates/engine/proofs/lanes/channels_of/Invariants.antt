@@ -1,6 +1,6 @@
 use Rattle.std.proofs.Common.{◌≡◌, ℕ, length, slice_get, Some}
 use Rattle.std.specs.Vec.Iter.{into_iter_items, into_iter_len}
-use Rattle.engine.specs.Lanes.{channels_on}
+use Rattle.engine.specs.claims.Lanes.{channels_on}
 use Rattle.engine.proofs.PostLaws.{AreTakenFrom}
 use Rattle.engine.proofs.lanes.channels_of.Given as goal
 

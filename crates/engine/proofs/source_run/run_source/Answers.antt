@@ -2,7 +2,8 @@ use Rattle.std.proofs.Common.{arith, rules, ◌≡◌, ◌<◌, ◌≤◌, ◌%�
 use Rattle.due_model.specs.declared.event.Event.{Event}
 use Rattle.std.proofs.lemmas.Option.{slice_get_within}
 use Rattle.lemmas.proofs.Lists.{some_at}
-use Rattle.engine.specs.Lanes.{HaveTaken, IsEndOf, channels_on, count_of}
+use Rattle.engine.specs.claims.Lanes.{HaveTaken, channels_on, count_of}
+use Rattle.engine.specs.Lanes.{IsEndOf}
 use Rattle.engine.proofs.ChannelLaws.{channels_told, no_channels}
 use Rattle.engine_threads.specs.Told.{HaveTold, NoneIsLeft}
 use Rattle.engine.specs.Logs.{given_logs}

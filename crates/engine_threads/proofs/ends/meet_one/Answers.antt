@@ -1,5 +1,5 @@
 use Rattle.std.proofs.Common.{◌∙◌, subst}
-use Rattle.decider_thread.specs.Decided.{IsOlder}
+use Rattle.decider_thread.specs.claims.Decided.{IsOlder}
 use Rattle.decider_thread.specs.Made.{made_due}
 use Rattle.engine_threads.proofs.ends.meet_one.Goals as goal
 

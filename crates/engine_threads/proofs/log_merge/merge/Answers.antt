@@ -1,7 +1,7 @@
 use Rattle.std.proofs.Common.{◌≡◌, subst, sym}
 use Rattle.std.proofs.lemmas.Result.{IfOk-weaker}
 use Rattle.engine_threads.specs.Merge.{HasBoth, merged}
-use Rattle.decider_thread.specs.Order.{IsInOrder}
+use Rattle.decider_thread.specs.claims.Order.{IsInOrder}
 use Rattle.engine_threads.proofs.MergeLaws.{merged_has_both, merged_in_order}
 use Rattle.engine_threads.proofs.log_merge.merge.Goals as goal
 

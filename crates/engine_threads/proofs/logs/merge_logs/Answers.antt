@@ -1,7 +1,7 @@
 use Rattle.std.proofs.Common.{rules, ◌≡◌, List, sym, subst}
 use Rattle.due_model.specs.declared.notice.Suppression.{Suppression}
 use Rattle.engine_threads.specs.Merge.{HasBoth}
-use Rattle.decider_thread.specs.Order.{IsInOrder}
+use Rattle.decider_thread.specs.claims.Order.{IsInOrder}
 use Rattle.lemmas.proofs.Lists.{slice_get_read}
 use Rattle.engine_threads.proofs.LogLaws.{HasBelow, all_below, none_below, one_more}
 use Rattle.engine_threads.proofs.logs.merge_logs.Goals as goal

@@ -1,4 +1,4 @@
-use Rattle.decider_thread.specs.Order.{IsInOrder}
+use Rattle.decider_thread.specs.claims.Order.{IsInOrder}
 use Rattle.engine_threads.specs.Logs.{AreInOrder}
 use Rattle.engine_threads.proofs.LogLaws.{HasBelow}
 use Rattle.engine_threads.proofs.logs.merge_logs.Given as goal

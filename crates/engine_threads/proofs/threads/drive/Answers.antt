@@ -4,7 +4,7 @@ use Rattle.channel_queue.specs.declared.LaneQueue.{LaneQueue}
 use Rattle.channel_queue.specs.Passes.{IsWorker}
 use Rattle.channel_queue.specs.Rule.{picked_of}
 use Rattle.decider_thread.specs.declared.ring.DeciderEnd.{DeciderEnd}
-use Rattle.decider_thread.specs.Order.{IsInOrder}
+use Rattle.decider_thread.specs.claims.Order.{IsInOrder}
 use Rattle.engine_threads.specs.Lanes.{IsServed}
 use Rattle.engine_threads.specs.Logs.{AreInOrder, HasEach}
 use Rattle.engine_threads.specs.Run.{IsLogOf}

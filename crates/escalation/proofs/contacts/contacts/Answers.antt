@@ -1,6 +1,6 @@
 use Rattle.std.proofs.Common.{◌∙◌, ◌++◌, ◌<◌, All, ap, length, subst, sym}
 use Rattle.std.proofs.lemmas.Result.{on_ok_weaker}
-use Rattle.due_model.specs.Escalations.{contacts_with, has_contact}
+use Rattle.due_model.specs.claims.Escalations.{contacts_with, has_contact}
 use Rattle.escalation.specs.Matching.{applying}
 use Rattle.escalation.specs.Named.{contact_ids, has_some, named_by}
 use Rattle.escalation.proofs.ByObjectLemmas.{places_within}

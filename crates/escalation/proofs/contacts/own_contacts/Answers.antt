@@ -1,8 +1,8 @@
 use Rattle.std.proofs.Common.{◌≡◌, ◌∙◌, ◌++◌, ◌<◌, All, Some, ap, length, slice_get, subst, sym}
 use Rattle.std.proofs.lemmas.Result.{on_ok_weaker}
 use Rattle.lemmas.proofs.Lists.{All-slice_get}
-use Rattle.due_model.specs.Accepted.{ObjectFits}
-use Rattle.due_model.specs.Escalations.{contacts_with, has_contact}
+use Rattle.due_model.specs.claims.Accepted.{ObjectFits}
+use Rattle.due_model.specs.claims.Escalations.{contacts_with, has_contact}
 use Rattle.escalation.specs.Named.{contact_ids}
 use Rattle.lemmas.proofs.Lists.{is_read}
 use Rattle.escalation.proofs.InOrderLemmas.{AreRising, already_in_order, appended}

@@ -2,7 +2,7 @@ use Rattle.std.proofs.Common.{◌∙◌, ◌<◌, All, filter, refl, rules}
 use Rattle.std.specs.List.{range_with_len}
 use Rattle.std.proofs.lemmas.List.Filters.{dedup_is}
 use Rattle.std.proofs.lemmas.List.Sorted.{IsNonDecreasingBy-from_sort_by_key}
-use Rattle.due_model.specs.Escalations.{has_contact}
+use Rattle.due_model.specs.claims.Escalations.{has_contact}
 use Rattle.escalation.specs.Named.{contact_ids}
 use Rattle.escalation.proofs.InOrderLemmas.{appended, in_order, number}
 use Rattle.escalation.proofs.in_order.append_in_order.Goals as goal

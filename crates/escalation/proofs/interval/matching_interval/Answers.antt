@@ -1,5 +1,5 @@
 use Rattle.std.proofs.Common.{◌∙◌, ◌*◌, ◌<◌, ◌≤◌, All, ap, get_or, length, subst, sym}
-use Rattle.due_model.specs.Limits.{max_number}
+use Rattle.due_model.specs.claims.Limits.{max_number}
 use Rattle.escalation.specs.Matching.{applying, least_of}
 use Rattle.escalation.proofs.ByObjectLemmas.{places_within}
 use Rattle.escalation.proofs.MatchingLemmas.{are_matching, interval_is, interval_within, read_at, times_within}

@@ -1,6 +1,6 @@
 use Rattle.std.proofs.Common.{◌≡◌, ◌<◌, length, refl, arith}
 use Rattle.std.proofs.lemmas.Bool.Decides.{nat_tests}
-use Rattle.event_feed.specs.Feed.{feed_limit}
+use Rattle.event_feed.specs.claims.Feed.{feed_limit}
 use Rattle.text_lines.specs.declared.line_reader.NextLine.TheVariants.{Line, Long, Over}
 use Rattle.event_feed.proofs.Answering.{CountsLine-over, GoesToLine-from, GoesToLine-long, GoesToLine-over, GoesToLine-many, Skips-more, Skips-none, few-last, few-line, few-over, held-none, held-more, held-calls, least-line, many-over}
 use Rattle.event_feed.proofs.feeder.next_line.Goals as goal

@@ -1,6 +1,6 @@
 use Rattle.std.proofs.Common.{◌≡◌, ◌+◌, ◌-◌, ◌*◌, ◌≤◌}
-use Rattle.text_lines.specs.CountedReader.{calls_after}
-use Rattle.text_lines.specs.LineReader.{call_limit}
+use Rattle.text_lines.specs.claims.CountedReader.{calls_after}
+use Rattle.text_lines.specs.claims.LineReader.{call_limit}
 use Rattle.event_feed.proofs.Answering.{Skips, StaysHeld}
 use Rattle.event_feed.proofs.feeder.next_line.Given as goal
 

@@ -1,6 +1,7 @@
 use Rattle.std.proofs.Common.{◌≡◌, ◌∙◌, ◌∷◌, ap}
 use Rattle.std.specs.Option.{option_copied}
-use Rattle.event_feed.specs.Line.{fields, fields_after, told_ack_said}
+use Rattle.event_feed.specs.claims.Line.{fields, told_ack_said}
+use Rattle.event_feed.specs.Line.{fields_after}
 use Rattle.event_feed.proofs.WordLemmas.{acks-told}
 use Rattle.event_feed.proofs.line.find_ack.Goals as goal
 

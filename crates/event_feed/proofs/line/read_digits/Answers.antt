@@ -1,7 +1,7 @@
 use Rattle.std.proofs.Common.{◌≡◌, ◌∙◌, ℕ, List, take, sym, ap, arith}
 use Rattle.std.specs.Char.{is_ascii_digit}
 use Rattle.std.specs.List.{prefix_len}
-use Rattle.event_feed.specs.Line.{digits_number}
+use Rattle.event_feed.specs.claims.Line.{digits_number}
 use Rattle.event_feed.proofs.Parts.{ten_digits, ReadsDigits-ten, ReadsDigits-count, ReadsDigits-number}
 use Rattle.event_feed.proofs.line.read_digits.Goals as goal
 

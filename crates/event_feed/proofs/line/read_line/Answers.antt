@@ -1,5 +1,5 @@
 use Rattle.std.proofs.Common.{sym}
-use Rattle.event_feed.specs.Line.{fields}
+use Rattle.event_feed.specs.claims.Line.{fields}
 use Rattle.event_feed.proofs.ProperLines.{command-proper, stamp_of-early}
 use Rattle.event_feed.proofs.line.read_line.Goals as goal
 

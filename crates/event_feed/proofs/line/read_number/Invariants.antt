@@ -1,5 +1,5 @@
 use Rattle.std.proofs.Common.{◌≡◌, ◌+◌, min, take}
-use Rattle.event_feed.specs.Line.{digits_number}
+use Rattle.event_feed.specs.claims.Line.{digits_number}
 use Rattle.event_feed.proofs.line.read_number.Given as goal
 
 -- The number of the digits so far, up to the first number past the range.

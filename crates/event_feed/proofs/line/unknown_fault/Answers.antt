@@ -1,6 +1,7 @@
 use Rattle.std.proofs.Common.{◌≡◌, ◌∙◌, ◌∷◌, ap, sym}
 use Rattle.std.specs.Option.{option_copied}
-use Rattle.event_feed.specs.Line.{unknown_fault, fields, fields_after}
+use Rattle.event_feed.specs.claims.Line.{fields}
+use Rattle.event_feed.specs.Line.{unknown_fault, fields_after}
 use Rattle.event_feed.proofs.line.unknown_fault.Goals as goal
 
 pub returns-in_default-Some : goal.returns-in_default-Some

@@ -1,5 +1,5 @@
 use Rattle.std.proofs.Common.{◌≡◌, subst, sym, ◌∙◌, arith}
-use Rattle.due_model.specs.Local.{local}
+use Rattle.due_model.specs.claims.Local.{local}
 use Rattle.given_times.specs.Given.{shown_by}
 use Rattle.jiff_fmt.specs.Temporal.{date_parts, time_parts}
 use Rattle.zone_times.specs.Clock.{GoesOn}

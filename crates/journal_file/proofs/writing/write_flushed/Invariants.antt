@@ -1,5 +1,5 @@
 use Rattle.std.proofs.Common.{◌≡◌, length}
-use Rattle.written.specs.Written.{Leaves}
+use Rattle.written.specs.claims.Written.{Leaves}
 use Rattle.journal_file.proofs.writing.write_flushed.Given as goal
 
 abbrev pub invariant-loop-rest : goal.invariant-loop-rest

@@ -1,6 +1,6 @@
 use Rattle.std.proofs.Common.{◌≡◌, ℕ, ◌+◌, ◌<◌, ◌≤◌, ◌^◌, List, Option, Some, None, Result, Ok, Err, length, sym, ap, ◌∙◌, subst, rules}
 use Rattle.text_lines.specs.LineReader.{to_come}
-use Rattle.text_lines.specs.Lines.{Known}
+use Rattle.text_lines.specs.claims.Lines.{Known}
 use Rattle.journal_text.specs.declared.entry.Entry.{Entry}
 use Rattle.journal_text.specs.Entries.{entry_said}
 use Rattle.journal_text.specs.Told.{Comes, Reads}

@@ -1,6 +1,6 @@
 use Rattle.std.proofs.Common.{◌+◌, ◌-◌, ◌≡◌}
 use Rattle.text_lines.specs.LineReader.{to_come}
-use Rattle.text_lines.specs.Lines.{Known}
+use Rattle.text_lines.specs.claims.Lines.{Known}
 use Rattle.journal_text.specs.Told.{Comes}
 use Rattle.journal_text.proofs.journal.read_entries.Given as goal
 

@@ -1,7 +1,7 @@
 use Rattle.std.proofs.Common.{◌≡◌, ℕ, ◌+◌, List, [], ◌∷◌, ◌++◌, Option, Some, None, Result, Ok, Err, IfSome, length, sym, ap, ◌∙◌, subst, rules}
 use Rattle.due_model.specs.declared.notice.Notice.{Notice}
 use Rattle.text_lines.specs.LineReader.{Reading, to_come}
-use Rattle.text_lines.specs.Lines.{Known}
+use Rattle.text_lines.specs.claims.Lines.{Known}
 use Rattle.journal_text.specs.Entries.{first_said}
 use Rattle.journal_text.specs.Told.{IsRead, IsTooMuch, Reads, journal_said}
 use Rattle.journal_text.proofs.ReadLaws.{all_read, entry_refused, entry_unreadable, first_refused, first_unreadable, held_none, none_read, same_fault}

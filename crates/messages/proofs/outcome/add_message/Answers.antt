@@ -1,6 +1,6 @@
 use Rattle.std.proofs.Common.{◌++◌, ◌||◌, not, ap, ◌∙◌}
 use Rattle.std.proofs.lemmas.Result.{err_from_is_err_and}
-use Rattle.due_model.specs.Receivers.{receivers}
+use Rattle.due_model.specs.claims.Receivers.{receivers}
 use Rattle.escalation.specs.Named.{contact_ids}
 use Rattle.filters.specs.Attempt.{plain}
 use Rattle.messages.proofs.MessageLemmas.{heard_law, receivers_law, receivers_within}

@@ -3,7 +3,7 @@ use Rattle.std.proofs.lemmas.Result.{IfOk-weaker, on_ok_weaker}
 use Rattle.due_model.specs.declared.config.Object.{Object}
 use Rattle.outcomes.specs.Outcome.{heard_of}
 use Rattle.messages.specs.Message.{outcome_of}
-use Rattle.messages.specs.Entries.{outcome_entries}
+use Rattle.messages.specs.claims.Entries.{outcome_entries}
 use Rattle.messages.proofs.MessageLemmas.{heard_parts, parts_law}
 use Rattle.messages.proofs.outcome.add_messages.Goals as goal
 

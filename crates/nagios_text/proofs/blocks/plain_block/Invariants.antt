@@ -1,5 +1,5 @@
 use Rattle.std.proofs.Common.{◌≡◌, flat_map, take}
-use Rattle.nagios_text.specs.Blocks.{plain_directive}
+use Rattle.nagios_text.specs.claims.Blocks.{plain_directive}
 use Rattle.nagios_text.proofs.blocks.plain_block.Given as goal
 
 -- What the directives mean that had their turn.

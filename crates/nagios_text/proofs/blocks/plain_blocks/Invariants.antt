@@ -1,5 +1,5 @@
 use Rattle.std.proofs.Common.{◌≡◌, map, take}
-use Rattle.nagios_text.specs.Blocks.{plain_block}
+use Rattle.nagios_text.specs.claims.Blocks.{plain_block}
 use Rattle.nagios_text.proofs.blocks.plain_blocks.Given as goal
 
 -- What the blocks are taken for that had their turn.

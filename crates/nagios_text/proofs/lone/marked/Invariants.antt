@@ -1,5 +1,5 @@
 use Rattle.std.proofs.Common.{◌≡◌, ◌++◌, length}
-use Rattle.nagios_text.specs.Lone.{lines_in, lines_said, marked, with_between}
+use Rattle.nagios_text.specs.claims.Lone.{lines_in, lines_said, marked, with_between}
 use Rattle.nagios_text.proofs.lone.marked.Given as goal
 
 -- The lines so far, and those of the rest.

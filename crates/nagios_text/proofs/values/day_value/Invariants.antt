@@ -1,5 +1,5 @@
 use Rattle.std.proofs.Common.{◌≡◌, ◌++◌, length}
-use Rattle.nagios_text.specs.Values.{day_value}
+use Rattle.nagios_text.specs.claims.Values.{day_value}
 use Rattle.nagios_text.proofs.values.day_value.Given as goal
 
 -- The ranges so far, and those of the rest.

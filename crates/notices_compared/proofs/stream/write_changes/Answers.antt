@@ -1,7 +1,7 @@
 use Rattle.std.proofs.Common.{◌≡◌, ◌<◌, ◌≤◌, ◌+◌, arith, refl, sym, subst, ◌∙◌}
-use Rattle.decider.specs.Fits.{core_kept}
-use Rattle.event_feed.specs.Feed.{feed_limit}
-use Rattle.written.specs.Written.{Leaves, WritesFront}
+use Rattle.decider.specs.claims.Fits.{core_kept}
+use Rattle.event_feed.specs.claims.Feed.{feed_limit}
+use Rattle.written.specs.claims.Written.{Leaves, WritesFront}
 use Rattle.written.specs.WrittenLaws.{front_none}
 use Rattle.notices_compared.proofs.StreamLaws.{compared_cut, compared_held, compared_last, compared_on, compared_start, compared_whole}
 use Rattle.notices_compared.proofs.stream.write_changes.Goals as goal

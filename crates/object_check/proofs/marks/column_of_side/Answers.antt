@@ -4,7 +4,7 @@ use Rattle.object_check.specs.Rows.{Asked}
 use Rattle.object_check.specs.declared.rows.Must.TheVariants as musts
 use Rattle.object_check.proofs.MarkLemmas.{column-is, column-more, unfit-at}
 use Rattle.object_check.proofs.marks.column_of_side.Goals as goal
-use Rattle.object_faults.specs.Faults.{lacks}
+use Rattle.object_faults.specs.claims.Faults.{lacks}
 use Rattle.object_faults.specs.Needs.{NeedsOf}
 use Rattle.object_reader.specs.declared.block.Block.{Block}
 

@@ -1,5 +1,5 @@
 use Rattle.std.proofs.Common.{◌≡◌, map, take}
-use Rattle.object_faults.specs.Faults.{is_registered}
+use Rattle.object_faults.specs.claims.Faults.{is_registered}
 use Rattle.object_check.proofs.marks.registered_blocks.Given as goal
 
 -- The marks of the blocks so far.

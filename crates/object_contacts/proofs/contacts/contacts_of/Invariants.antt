@@ -1,8 +1,8 @@
 use Rattle.std.proofs.Common.{take}
 use Rattle.std.specs.List.{AllZip}
-use Rattle.object_contacts.specs.Contacts.{IsContactOf}
+use Rattle.object_contacts.specs.claims.Contacts.{IsContactOf}
 use Rattle.object_contacts.proofs.contacts.contacts_of.Given as goal
-use Rattle.object_groups.specs.Objects.{objects_in}
+use Rattle.object_groups.specs.claims.Objects.{objects_in}
 use Rattle.object_reader.specs.declared.block.BlockKind.TheVariants.{Contact}
 
 -- The contacts so far.

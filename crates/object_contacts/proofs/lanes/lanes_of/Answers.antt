@@ -2,7 +2,7 @@ use Rattle.std.proofs.Common.{◌≡◌, ◌∙◌, List, Bool, ap, false, refl,
 use Rattle.std.specs.Prelude.{codes}
 use Rattle.std.proofs.lemmas.List.{take_at}
 use Rattle.std.proofs.lemmas.Result.{IfOk-weaker}
-use Rattle.object_contacts.specs.Lanes.{IsUsed}
+use Rattle.object_contacts.specs.claims.Lanes.{IsUsed}
 use Rattle.object_contacts.specs.Marks.{marked}
 use Rattle.object_contacts.proofs.LaneLemmas.{lanes-are, marks-moved, used-for}
 use Rattle.object_contacts.proofs.lanes.lanes_of.Goals as goal

@@ -1,5 +1,5 @@
 use Rattle.std.proofs.Common.{◌∙◌, List, ap, subst, ℕ}
-use Rattle.object_contacts.specs.Lanes.{NamesCommand}
+use Rattle.object_contacts.specs.claims.Lanes.{NamesCommand}
 use Rattle.object_contacts.specs.Marks.{Marks}
 use Rattle.object_contacts.proofs.lanes.mark_used_at.Goals as goal
 use Rattle.object_values.specs.Values.{texts}

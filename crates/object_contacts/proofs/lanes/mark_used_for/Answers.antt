@@ -1,11 +1,11 @@
 use Rattle.std.proofs.Common.{rules, ◌∙◌, List, get_or, refl, subst, take, take_all, ℕ}
 use Rattle.std.proofs.lemmas.List.{take_more}
-use Rattle.object_contacts.specs.Lanes.{NamesCommand}
+use Rattle.object_contacts.specs.claims.Lanes.{NamesCommand}
 use Rattle.object_contacts.specs.Marks.{Marks, OfSome}
 use Rattle.object_contacts.proofs.LaneLemmas.{nothing-read}
 use Rattle.object_contacts.proofs.MarkLemmas.{marks-more, marks-none}
 use Rattle.object_contacts.proofs.lanes.mark_used_for.Goals as goal
-use Rattle.object_groups.specs.Objects.{list_at}
+use Rattle.object_groups.specs.claims.Objects.{list_at}
 
 pub loop-place-init : goal.loop-place-init
 loop-place-init c = record {

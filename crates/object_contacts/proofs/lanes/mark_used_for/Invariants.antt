@@ -1,8 +1,9 @@
 use Rattle.std.proofs.Common.{◌≡◌, length, take}
-use Rattle.object_contacts.specs.Lanes.{AreRead, NamesCommand}
+use Rattle.object_contacts.specs.claims.Lanes.{NamesCommand}
+use Rattle.object_contacts.specs.Lanes.{AreRead}
 use Rattle.object_contacts.specs.Marks.{Marks, OfSome}
 use Rattle.object_contacts.proofs.lanes.mark_used_for.Given as goal
-use Rattle.object_groups.specs.Objects.{list_at}
+use Rattle.object_groups.specs.claims.Objects.{list_at}
 
 -- The commands that the lists of the blocks so far name are marked.
 abbrev pub invariant-loop-place : goal.invariant-loop-place

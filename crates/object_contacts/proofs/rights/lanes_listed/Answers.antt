@@ -2,8 +2,8 @@ use Rattle.std.proofs.Common.{◌≡◌, ◌≤◌, ◌<◌, ◌∙◌, List, Bo
 use Rattle.std.specs.Prelude.{All}
 use Rattle.std.proofs.lemmas.List.{take_at}
 use Rattle.std.proofs.lemmas.Result.{IfOk-weaker}
-use Rattle.due_model.specs.Limits.{max_lanes}
-use Rattle.object_contacts.specs.Lanes.{NamesLane}
+use Rattle.due_model.specs.claims.Limits.{max_lanes}
+use Rattle.object_contacts.specs.claims.Lanes.{NamesLane}
 use Rattle.object_contacts.specs.Marks.{marked}
 use Rattle.object_contacts.proofs.LaneLemmas.{marks-length}
 use Rattle.object_contacts.proofs.MarkLemmas.{are-lanes, marked-low}

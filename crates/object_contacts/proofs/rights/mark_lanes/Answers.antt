@@ -1,7 +1,7 @@
 use Rattle.std.proofs.Common.{◌≡◌, ◌<◌, ◌∙◌, Option, Some, refl, subst, sym, take, ℕ}
 use Rattle.std.specs.Prelude.{IfSome}
 use Rattle.lemmas.proofs.Searches.{texts-more}
-use Rattle.object_contacts.specs.Lanes.{lane_named}
+use Rattle.object_contacts.specs.claims.Lanes.{lane_named}
 use Rattle.object_contacts.specs.Marks.{Marks}
 use Rattle.object_contacts.proofs.MarkLemmas.{marks-more, marks-none}
 use Rattle.object_contacts.proofs.rights.mark_lanes.Goals as goal

@@ -1,5 +1,5 @@
 use Rattle.std.proofs.Common.{◌≡◌, length, take}
-use Rattle.object_contacts.specs.Lanes.{NamesLane}
+use Rattle.object_contacts.specs.claims.Lanes.{NamesLane}
 use Rattle.object_contacts.specs.Marks.{Marks}
 use Rattle.object_contacts.proofs.rights.mark_lanes.Given as goal
 use Rattle.object_values.specs.Values.{texts}

@@ -3,8 +3,8 @@ use Rattle.std.specs.Prelude.{codes}
 use Rattle.std.specs.List.{sum_by}
 use Rattle.object_reader.specs.declared.block.Block.{Block}
 use Rattle.object_dependencies.specs.declared.entries.Terms.{Terms}
-use Rattle.object_dependencies.specs.Entries.{entries_at, entries_in, entry_of, terms_at}
-use Rattle.object_dependencies.specs.Pairs.{Pair}
+use Rattle.object_dependencies.specs.claims.Entries.{entries_at, entries_in, entry_of, terms_at}
+use Rattle.object_dependencies.specs.claims.Pairs.{Pair}
 use Rattle.object_dependencies.proofs.EntryLemmas.{as-many, block-more, count-more}
 use Rattle.object_dependencies.proofs.entries.dependencies_of.Goals as goal
 

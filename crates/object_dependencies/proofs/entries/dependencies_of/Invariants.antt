@@ -1,6 +1,6 @@
 use Rattle.std.proofs.Common.{◌≡◌, length, take}
 use Rattle.std.specs.List.{sum_by}
-use Rattle.object_dependencies.specs.Entries.{entries_in}
+use Rattle.object_dependencies.specs.claims.Entries.{entries_in}
 use Rattle.object_dependencies.proofs.entries.dependencies_of.Given as goal
 
 -- The dependencies of the blocks so far, as many as these have pairs.

@@ -1,5 +1,5 @@
 use Rattle.std.proofs.Common.{◌≡◌, ◌++◌, map, take}
-use Rattle.object_dependencies.specs.Entries.{entry_of}
+use Rattle.object_dependencies.specs.claims.Entries.{entry_of}
 use Rattle.object_dependencies.specs.Pairs.{paired}
 use Rattle.object_dependencies.proofs.entries.push_pairs.Given as goal
 

@@ -1,7 +1,7 @@
 use Rattle.std.proofs.Common.{◌∙◌, Option, ap}
 use Rattle.std.specs.Prelude.{unwrap_or}
 use Rattle.due_model.specs.declared.state.StateSet.{StateSet}
-use Rattle.object_values.specs.Options.{no_state}
+use Rattle.object_values.specs.claims.Options.{no_state}
 use Rattle.object_dependencies.proofs.EntryLemmas.{terms-are}
 use Rattle.object_dependencies.proofs.entries.terms_at.Goals as goal
 

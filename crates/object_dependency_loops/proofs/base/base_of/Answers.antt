@@ -1,12 +1,13 @@
 use Rattle.std.proofs.Common.{◌≡◌, ◌≤◌, ◌∙◌, List, ap, arith, length, subst, sym}
 use Rattle.std.proofs.lemmas.Bool.{false≢true}
-use Rattle.object_groups.specs.Objects.{objects_in}
+use Rattle.object_groups.specs.claims.Objects.{objects_in}
 use Rattle.object_reader.specs.declared.block.Block.{Block}
 use Rattle.object_reader.specs.declared.block.BlockKind.TheVariants.{Service}
-use Rattle.object_service_groups.specs.Groups.{grouping as service_grouping, LeadsToMembers as LeadsToServices}
+use Rattle.object_service_groups.specs.claims.Groups.{grouping as service_grouping}
+use Rattle.object_service_groups.specs.Groups.{LeadsToMembers as LeadsToServices}
 use Rattle.object_service_groups.specs.Nodes.{first_group}
-use Rattle.object_services.specs.Limits.{AreHostLists}
-use Rattle.object_services.specs.Numbers.{Pair}
+use Rattle.object_services.specs.claims.Limits.{AreHostLists}
+use Rattle.object_services.specs.claims.Numbers.{Pair}
 use Rattle.object_dependency_loops.specs.Base.{service_count}
 use Rattle.object_dependency_loops.proofs.base.base_of.Goals as goal
 

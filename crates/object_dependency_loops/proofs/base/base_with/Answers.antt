@@ -1,10 +1,12 @@
 use Rattle.std.proofs.Common.{◌≡◌, ◌+◌, ◌≤◌, ◌∙◌, List, ap, arith, length, refl, subst, ℕ}
-use Rattle.object_groups.specs.Groups.{group_kind, grouping, GroupsOf, object_kind}
+use Rattle.object_groups.specs.claims.Groups.{group_kind, grouping, object_kind}
+use Rattle.object_groups.specs.Groups.{GroupsOf}
 use Rattle.object_groups.specs.Nodes.{LeadsToMembers}
-use Rattle.object_groups.specs.Objects.{names_in, ObjectsOf}
+use Rattle.object_groups.specs.claims.Objects.{names_in}
+use Rattle.object_groups.specs.Objects.{ObjectsOf}
 use Rattle.object_groups.specs.declared.groups.GroupKind.TheVariants.{HostGroups}
 use Rattle.object_reader.specs.declared.block.BlockKind.TheVariants.{HostGroup}
-use Rattle.object_services.specs.Numbers.{Pair}
+use Rattle.object_services.specs.claims.Numbers.{Pair}
 use Rattle.object_dependency_loops.specs.Base.{base_edges, host_count, service_count}
 use Rattle.object_dependency_loops.proofs.BaseLemmas.{base-is}
 use Rattle.object_dependency_loops.proofs.base.base_with.Goals as goal

@@ -1,9 +1,11 @@
 use Rattle.std.proofs.Common.{◌≡◌, ◌+◌, ◌∙◌, [], List, ap, length, refl, subst, sym, ℕ}
 use Rattle.object_groups.specs.declared.groups.GroupKind.TheVariants.{HostGroups}
-use Rattle.object_groups.specs.Groups.{GroupsOf, object_kind}
-use Rattle.object_groups.specs.Objects.{names_in, ObjectsOf}
+use Rattle.object_groups.specs.claims.Groups.{object_kind}
+use Rattle.object_groups.specs.Groups.{GroupsOf}
+use Rattle.object_groups.specs.claims.Objects.{names_in}
+use Rattle.object_groups.specs.Objects.{ObjectsOf}
 use Rattle.object_reached.specs.Alike.{HaveLists}
-use Rattle.object_reached.specs.Listed.{IsDescribed}
+use Rattle.object_reached.specs.claims.Listed.{IsDescribed}
 use Rattle.object_listing.specs.Listing.{Adds}
 use Rattle.object_reader.specs.declared.block.Block.{Block}
 use Rattle.object_dependency_loops.specs.Base.{host_count}

@@ -1,8 +1,9 @@
 use Rattle.std.proofs.Common.{◌≡◌, ◌∙◌, Bool, List, ap, false, not, refl, sym, true}
 use Rattle.std.proofs.lemmas.Result.{IfOk-weaker}
-use Rattle.object_groups.specs.Objects.{names_in, ObjectsOf}
+use Rattle.object_groups.specs.claims.Objects.{names_in}
+use Rattle.object_groups.specs.Objects.{ObjectsOf}
 use Rattle.object_reached.specs.Listed.{ServiceListingOf}
-use Rattle.object_reached.specs.Roles.{directives_of}
+use Rattle.object_reached.specs.claims.Roles.{directives_of}
 use Rattle.object_reader.specs.declared.block.Block.{Block}
 use Rattle.object_reader.specs.declared.block.BlockKind.TheVariants.{ServiceGroup}
 use Rattle.object_dependency_loops.proofs.RoleLemmas.{grouped-pushed, none-grouped}

@@ -1,10 +1,12 @@
 use Rattle.std.proofs.Common.{◌≡◌, ◌∙◌, List, Some, ap, arith, length, ℕ}
 use Rattle.std.proofs.lemmas.Result.{IfOk-weaker}
-use Rattle.object_groups.specs.Groups.{group_kind, GroupsOf, object_kind}
-use Rattle.object_groups.specs.Objects.{names_in, ObjectsOf}
+use Rattle.object_groups.specs.claims.Groups.{group_kind, object_kind}
+use Rattle.object_groups.specs.Groups.{GroupsOf}
+use Rattle.object_groups.specs.claims.Objects.{names_in}
+use Rattle.object_groups.specs.Objects.{ObjectsOf}
 use Rattle.object_listing.specs.Listing.{ListingOf}
 use Rattle.object_reached.specs.Listed.{ServiceListingOf}
-use Rattle.object_reached.specs.Roles.{directives_of}
+use Rattle.object_reached.specs.claims.Roles.{directives_of}
 use Rattle.object_reader.specs.declared.block.Block.{Block}
 use Rattle.object_reader.specs.declared.block.BlockKind.TheVariants.{Host, HostGroup}
 use Rattle.object_dependency_loops.proofs.RoleLemmas.{hosts-pushed, step-within}

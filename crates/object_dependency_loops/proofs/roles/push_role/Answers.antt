@@ -1,7 +1,8 @@
 use Rattle.std.proofs.Common.{◌∙◌, ap, length, subst, sym, ℕ}
-use Rattle.object_listing.specs.Listing.{IsListed}
-use Rattle.object_reached.specs.Listed.{of_hosts, ServiceListingOf}
-use Rattle.object_reached.specs.Roles.{directives_of, host_kind, service_kind}
+use Rattle.object_listing.specs.claims.Listing.{IsListed}
+use Rattle.object_reached.specs.claims.Listed.{of_hosts}
+use Rattle.object_reached.specs.Listed.{ServiceListingOf}
+use Rattle.object_reached.specs.claims.Roles.{directives_of, host_kind, service_kind}
 use Rattle.object_dependency_loops.specs.Described.{Describes, Gathers}
 use Rattle.object_dependency_loops.specs.Speech.{AddsSpeech, AreLinked}
 use Rattle.object_dependency_loops.proofs.BaseLemmas.{base-over}

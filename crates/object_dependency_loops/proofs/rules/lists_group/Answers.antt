@@ -3,11 +3,11 @@ use Rattle.std.specs.Prelude.{All}
 use Rattle.std.proofs.lemmas.Bool.Decides.{nat_tests}
 use Rattle.std.proofs.lemmas.List.{nil_from_length, take_all, take_more}
 use Rattle.std.proofs.lemmas.List.Elements.{All-append, All-cons}
-use Rattle.object_groups.specs.Objects.{list_at}
+use Rattle.object_groups.specs.claims.Objects.{list_at}
 use Rattle.object_inheritance.specs.Columns.{Column}
 use Rattle.object_inheritance.specs.Inherited.{has_any}
 use Rattle.object_reached.specs.Listed.{ServiceListingOf}
-use Rattle.object_reached.specs.Roles.{directives_of}
+use Rattle.object_reached.specs.claims.Roles.{directives_of}
 use Rattle.object_dependency_loops.specs.Described.{ListsNoGroup}
 use Rattle.object_dependency_loops.proofs.rules.lists_group.Goals as goal
 

@@ -1,6 +1,6 @@
 use Rattle.std.proofs.Common.{take}
 use Rattle.std.specs.Prelude.{All}
-use Rattle.object_reached.specs.Roles.{directives_of}
+use Rattle.object_reached.specs.claims.Roles.{directives_of}
 use Rattle.object_dependency_loops.specs.Described.{ListsNoGroup}
 use Rattle.object_dependency_loops.proofs.rules.lists_group.Given as goal
 

@@ -3,7 +3,7 @@ use Rattle.std.specs.Prelude.{All}
 use Rattle.std.proofs.lemmas.Bool.Decides.{nat_tests}
 use Rattle.object_reached.specs.declared.roles.Role.TheVariants.{Dependent, Master}
 use Rattle.object_reached.specs.Reached.{ReachedOf}
-use Rattle.object_reached.specs.Roles.{directives_of, host_kind, service_kind}
+use Rattle.object_reached.specs.claims.Roles.{directives_of, host_kind, service_kind}
 use Rattle.object_reader.specs.declared.block.Block.{Block}
 use Rattle.object_reader.specs.declared.block.BlockKind.TheVariants.{HostDependency, ServiceDependency}
 use Rattle.object_dependency_loops.specs.Described.{ListsNoGroup}

@@ -1,5 +1,6 @@
 use Rattle.std.proofs.Common.{◌<◌, List, length, subst, sym, ℕ}
-use Rattle.object_escalations.specs.Entries.{AddsEntries, origins_at}
+use Rattle.object_escalations.specs.claims.Entries.{origins_at}
+use Rattle.object_escalations.specs.Entries.{AddsEntries}
 use Rattle.object_reader.specs.declared.block.Block.{Block}
 use Rattle.object_listing.specs.Periods.{ArePeriods}
 use Rattle.object_escalations.proofs.GivenLemmas.{entries-more}

@@ -1,5 +1,5 @@
 use Rattle.std.specs.List.{AllZip}
-use Rattle.object_escalations.specs.Entries.{ComesFrom, origins_below}
+use Rattle.object_escalations.specs.claims.Entries.{ComesFrom, origins_below}
 use Rattle.object_escalations.proofs.entries.entries_of.Given as goal
 
 -- The escalations of the blocks so far.

@@ -1,8 +1,8 @@
 use Rattle.std.proofs.Common.{◌≡◌, ◌<◌, ◌∙◌, List, ap, arith, get_or, length, map, refl, subst}
 use Rattle.std.proofs.lemmas.Option.{slice_get_read}
 use Rattle.std.proofs.lemmas.Result.{err_from_is_err_and}
-use Rattle.object_escalations.specs.Escalated.{SpeaksOf}
-use Rattle.object_listing.specs.Listing.{AreThose}
+use Rattle.object_escalations.specs.claims.Escalated.{SpeaksOf}
+use Rattle.object_listing.specs.claims.Listing.{AreThose}
 use Rattle.object_reached.specs.Reached.{AreSpokenOf, ReachedOf}
 use Rattle.object_reader.specs.declared.block.Block.{Block}
 use Rattle.object_escalations.proofs.EscalatedLemmas.{kept-block, refused-block}

@@ -1,5 +1,5 @@
 use Rattle.std.proofs.Common.{◌≡◌, ◌≤◌, map}
-use Rattle.due_model.specs.Limits.{max_escalations}
+use Rattle.due_model.specs.claims.Limits.{max_escalations}
 use Rattle.object_escalations.specs.Escalated.{IsSoFar}
 use Rattle.object_escalations.proofs.escalated.objects_of.Given as goal
 

@@ -1,6 +1,6 @@
 use Rattle.std.proofs.Common.{◌∙◌, ap, length, map}
 use Rattle.object_faults.specs.Columns.{first_at, lacking_at, value_columns}
-use Rattle.object_faults.specs.Faults.{is_registered}
+use Rattle.object_faults.specs.claims.Faults.{is_registered}
 use Rattle.object_faults.proofs.FirstLemmas.{first-both}
 use Rattle.object_faults.proofs.check.first_plain.Goals as goal
 

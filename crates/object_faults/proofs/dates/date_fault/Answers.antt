@@ -3,7 +3,7 @@ use Rattle.std.specs.Prelude.{slice_get}
 use Rattle.std.specs.List.{list_any}
 use Rattle.std.proofs.lemmas.Option.{slice_get_read}
 use Rattle.object_faults.specs.Columns.{date_at}
-use Rattle.object_faults.specs.Dated.{is_bad_line, is_other_line}
+use Rattle.object_faults.specs.claims.Dated.{is_bad_line, is_other_line}
 use Rattle.object_faults.proofs.DateLemmas.{fault-is, fault-no_period, fault-unregistered, kept-line-is}
 use Rattle.object_inheritance.specs.declared.dated_lines.Line.{Line}
 use Rattle.object_faults.proofs.dates.date_fault.Goals as goal

@@ -1,5 +1,5 @@
 use Rattle.std.proofs.Common.{◌≡◌, ◌+◌, arith, subst, ℕ}
-use Rattle.object_groups.specs.Groups.{group_kind, grouping, object_kind}
+use Rattle.object_groups.specs.claims.Groups.{group_kind, grouping, object_kind}
 use Rattle.object_groups.specs.ListEdges.{LeadOver}
 use Rattle.object_groups.specs.Nodes.{edges_in, node_count}
 use Rattle.object_groups.proofs.GroupLemmas.{graph-is, table-long}

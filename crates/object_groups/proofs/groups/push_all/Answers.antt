@@ -1,5 +1,5 @@
 use Rattle.std.proofs.lemmas.Result.{IfOk-weaker}
-use Rattle.object_groups.specs.Groups.{group_kind, grouping, object_kind}
+use Rattle.object_groups.specs.claims.Groups.{group_kind, grouping, object_kind}
 use Rattle.object_groups.proofs.GroupLemmas.{all-lead, ends-are, ends-below, own-lead, table-names}
 use Rattle.object_groups.proofs.groups.push_all.Goals as goal
 

@@ -1,9 +1,10 @@
 use Rattle.std.proofs.Common.{◌++◌, ◌∙◌, List, ap, subst}
 use Rattle.std.specs.Prelude.{IfOk}
 use Rattle.graph.specs.declared.edges.Edge.{Edge}
-use Rattle.object_groups.specs.Groups.{group_kind, object_kind}
+use Rattle.object_groups.specs.claims.Groups.{group_kind, object_kind}
 use Rattle.object_groups.specs.ListEdges.{LeadOver}
-use Rattle.object_groups.specs.Objects.{names_in, objects_in, ObjectsOf}
+use Rattle.object_groups.specs.claims.Objects.{names_in, objects_in}
+use Rattle.object_groups.specs.Objects.{ObjectsOf}
 use Rattle.object_groups.proofs.GroupLemmas.{members-listed, table-long}
 use Rattle.object_groups.proofs.groups.push_members.Goals as goal
 

@@ -1,6 +1,6 @@
 use Rattle.std.proofs.Common.{◌≡◌, ◌+◌, ◌++◌, map, take}
 use Rattle.object_groups.specs.ListEdges.{between}
-use Rattle.object_groups.specs.Names.{numbers_of}
+use Rattle.object_groups.specs.claims.Names.{numbers_of}
 use Rattle.object_values.specs.Values.{texts}
 use Rattle.object_groups.proofs.lists.push_names.Given as goal
 

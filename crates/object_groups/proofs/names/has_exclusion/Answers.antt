@@ -1,7 +1,7 @@
 use Rattle.std.proofs.Common.{◌∙◌, [], ap, sym}
 use Rattle.std.proofs.lemmas.List.{get_or-map, length-map}
 use Rattle.std.proofs.lemmas.List.Folds.{list_any_at}
-use Rattle.object_groups.specs.Names.{is_exclusion}
+use Rattle.object_groups.specs.claims.Names.{is_exclusion}
 use Rattle.object_values.specs.Values.{texts}
 use Rattle.object_groups.proofs.names.has_exclusion.Goals as goal
 

@@ -1,5 +1,5 @@
 use Rattle.std.proofs.Common.{◌≡◌, take}
-use Rattle.object_groups.specs.Names.{numbers_of}
+use Rattle.object_groups.specs.claims.Names.{numbers_of}
 use Rattle.object_values.specs.Values.{texts}
 use Rattle.object_groups.proofs.names.numbers_of.Given as goal
 

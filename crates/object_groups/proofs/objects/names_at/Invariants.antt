@@ -1,6 +1,6 @@
 use Rattle.std.proofs.Common.{◌≡◌, [], map, take}
 use Rattle.std.specs.Prelude.{unwrap_or}
-use Rattle.object_inheritance.specs.Inherited.{value}
+use Rattle.object_inheritance.specs.claims.Inherited.{value}
 use Rattle.object_values.specs.Values.{texts}
 use Rattle.object_groups.proofs.objects.names_at.Given as goal
 

@@ -1,6 +1,6 @@
 use Rattle.std.proofs.Common.{◌≡◌, ◌++◌, ◌∷◌, ◌∙◌, List, [], ap, arith, cond, filter, length, sym, ℕ}
 use Rattle.std.specs.List.{range_with_len}
-use Rattle.object_groups.specs.Objects.{is_object_at, objects_in}
+use Rattle.object_groups.specs.claims.Objects.{is_object_at, objects_in}
 use Rattle.object_groups.proofs.GroupLemmas.{object-is}
 use Rattle.object_groups.proofs.NumberLemmas.{filter-range}
 use Rattle.object_groups.proofs.objects.places_of.Goals as goal

@@ -1,6 +1,6 @@
 use Rattle.std.proofs.Common.{◌≡◌, filter}
 use Rattle.std.specs.List.{range_with_len}
-use Rattle.object_groups.specs.Objects.{is_object_at}
+use Rattle.object_groups.specs.claims.Objects.{is_object_at}
 use Rattle.object_groups.proofs.objects.places_of.Given as goal
 
 -- The objects among the blocks so far.

@@ -2,7 +2,7 @@ use Rattle.std.proofs.Common.{[], List, length, reverse, suc, ℕ}
 use Rattle.std.specs.Prelude.{None, Option, Some, unwrap_or}
 use Rattle.object_groups.specs.Shared.{IsChain}
 use Rattle.object_inheritance.specs.Columns.{given_from}
-use Rattle.object_inheritance.specs.Inherited.{given, list_given}
+use Rattle.object_inheritance.specs.claims.Inherited.{given, list_given}
 use Rattle.object_reader.specs.declared.block.Block.{Block}
 use Rattle.object_groups.proofs.shared.chain_of.Given as goal
 

@@ -1,6 +1,7 @@
 use Rattle.std.proofs.Common.{List, [], ap, refl, subst, sym}
 use Rattle.object_inheritance.specs.declared.dated_lines.Line.{Line}
-use Rattle.object_inheritance.specs.DatedLines.{AreLines, named}
+use Rattle.object_inheritance.specs.claims.DatedLines.{AreLines}
+use Rattle.object_inheritance.specs.DatedLines.{named}
 use Rattle.object_inheritance.specs.Inherited.{AreInherited}
 use Rattle.object_inheritance.specs.LineSearch.{AreMarks, IsSearch}
 use Rattle.object_inheritance.proofs.LineLemmas.{lines-are, none-found}

@@ -7,7 +7,7 @@ use Rattle.object_inheritance.specs.declared.dated_lines.Line.{Line}
 use Rattle.object_inheritance.specs.LineSearch.{noted}
 use Rattle.object_inheritance.proofs.LineLemmas.{found-more, note-kept, note-new, note-undated, some-cond}
 use Rattle.object_inheritance.proofs.dated_lines.note.Goals as goal
-use Rattle.object_values.specs.Ranges.{is_dated}
+use Rattle.object_values.specs.claims.Ranges.{is_dated}
 
 pub returns-then-not-is_dated-clause-noted : goal.returns-then-not-is_dated-clause-noted
 returns-then-not-is_dated-clause-noted c =

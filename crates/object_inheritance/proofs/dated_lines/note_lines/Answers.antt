@@ -1,12 +1,12 @@
 use Rattle.std.proofs.Common.{◌≡◌, ◌∷◌, ◌∙◌, ◌-◌, ◌<◌, ap, arith, drop, drop-cons, length, suc, sym, ℕ}
 use Rattle.std.specs.Option.{option_or}
 use Rattle.std.proofs.lemmas.List.{drop_all}
-use Rattle.object_inheritance.specs.DatedLines.{dated_line}
+use Rattle.object_inheritance.specs.claims.DatedLines.{dated_line}
 use Rattle.object_inheritance.specs.LineSearch.{noted}
 use Rattle.object_inheritance.proofs.LineLemmas.{lines-more, lines-none}
 use Rattle.object_inheritance.proofs.dated_lines.note_lines.Goals as goal
 use Rattle.object_reader.specs.declared.block.Directive.{Directive}
-use Rattle.object_values.specs.Values.{value_in}
+use Rattle.object_values.specs.claims.Values.{value_in}
 
 pub loop-left-init : goal.loop-left-init
 loop-left-init c =

@@ -1,8 +1,8 @@
 use Rattle.std.proofs.Common.{◌≡◌, ℕ, ◌≤◌, List, drop, length}
 use Rattle.std.specs.Option.{option_or}
-use Rattle.object_inheritance.specs.DatedLines.{dated_line}
+use Rattle.object_inheritance.specs.claims.DatedLines.{dated_line}
 use Rattle.object_inheritance.specs.LineSearch.{IsFound, noted}
-use Rattle.object_values.specs.Values.{value_in}
+use Rattle.object_values.specs.claims.Values.{value_in}
 use Rattle.object_inheritance.proofs.dated_lines.note_lines.Given as goal
 
 -- The lines of the directives from there on.

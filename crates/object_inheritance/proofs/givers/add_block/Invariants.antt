@@ -3,7 +3,7 @@ use Rattle.std.specs.Prelude.{slice_get}
 use Rattle.std.specs.Option.{option_or}
 use Rattle.object_reader.specs.declared.block.Block.{Block}
 use Rattle.object_inheritance.specs.Givers.{own_in}
-use Rattle.object_values.specs.Values.{value_in}
+use Rattle.object_values.specs.claims.Values.{value_in}
 use Rattle.object_inheritance.proofs.givers.add_block.Given as goal
 
 -- What the directives so far give has been added.

@@ -1,5 +1,5 @@
 use Rattle.std.proofs.Common.{◌≡◌, ◌+◌, ◌-◌, ◌<◌, ◌∙◌, Bool, List, Option, ap, arith, get_or, length, length-set, set, subst, sym, true, false, ℕ}
-use Rattle.graph.specs.Edges.{Leads}
+use Rattle.graph.specs.claims.Edges.{Leads}
 use Rattle.object_inheritance.specs.Columns.{HasGivenFrom, IsGivenAt, IsNext}
 use Rattle.object_inheritance.specs.Faults.{is_used}
 use Rattle.object_inheritance.specs.declared.inherited.Given.{Given}

@@ -2,7 +2,7 @@ use Rattle.std.proofs.Common.{◌≡◌, ◌∙◌, ◌<◌, Bool, List, ap, ari
 use Rattle.std.specs.Prelude.{◌↔◌, IsTrue}
 use Rattle.std.proofs.lemmas.Option.{slice_get_read}
 use Rattle.object_reader.specs.declared.block.Block.{Block}
-use Rattle.object_inheritance.specs.Faults.{IsLooped}
+use Rattle.object_inheritance.specs.claims.Faults.{IsLooped}
 use Rattle.object_inheritance.proofs.FaultLemmas.{free-all, free-more, looped-is}
 use Rattle.object_inheritance.proofs.templates.check_templates.Goals as goal
 

@@ -1,4 +1,4 @@
-use Rattle.object_inheritance.specs.Faults.{AreFreeBefore}
+use Rattle.object_inheritance.specs.claims.Faults.{AreFreeBefore}
 use Rattle.object_inheritance.proofs.templates.check_templates.Given as goal
 
 -- None of the blocks so far has a fault.

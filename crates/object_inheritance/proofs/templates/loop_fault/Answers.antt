@@ -1,7 +1,7 @@
 use Rattle.std.proofs.Common.{List, ℕ, subst}
 use Rattle.std.specs.Prelude.{IfNone}
-use Rattle.graph.specs.Chains.{HasNoLoop}
-use Rattle.graph.specs.Edges.{Leads}
+use Rattle.graph.specs.claims.Chains.{HasNoLoop}
+use Rattle.graph.specs.claims.Edges.{Leads}
 use Rattle.object_inheritance.proofs.FaultLemmas.{free-no_loop}
 use Rattle.object_inheritance.proofs.templates.loop_fault.Goals as goal
 

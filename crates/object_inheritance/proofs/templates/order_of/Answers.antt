@@ -1,7 +1,7 @@
 use Rattle.std.proofs.Common.{List, ℕ, subst}
 use Rattle.std.specs.Prelude.{IfSome}
-use Rattle.graph.specs.Chains.{HasNoLoop}
-use Rattle.graph.specs.Edges.{Leads}
+use Rattle.graph.specs.claims.Chains.{HasNoLoop}
+use Rattle.graph.specs.claims.Edges.{Leads}
 use Rattle.object_inheritance.proofs.templates.order_of.Goals as goal
 
 pub check_templates-requires-clause-no_loop : goal.check_templates-requires-clause-no_loop

@@ -1,7 +1,7 @@
 use Rattle.std.proofs.Common.{◌≡◌, ◌+◌, ◌<◌, ◌≤◌, ◌∙◌, List, [], ap, arith, get_or, length, subst, sym, true, ⊎_elim, ℕ}
 use Rattle.std.specs.Prelude.{Contains}
 use Rattle.std.proofs.lemmas.Bool.{cases_lt}
-use Rattle.graph.specs.Edges.{Leads}
+use Rattle.graph.specs.claims.Edges.{Leads}
 use Rattle.std.proofs.lemmas.List.{get_or_past}
 use Rattle.object_inheritance.proofs.templates.used_nodes.Goals as goal
 

@@ -1,5 +1,5 @@
 use Rattle.std.proofs.Common.{◌≡◌, ◌<◌, get_or, length, true, ℕ}
-use Rattle.graph.specs.Edges.{Leads}
+use Rattle.graph.specs.claims.Edges.{Leads}
 use Rattle.object_inheritance.proofs.templates.used_nodes.Given as goal
 
 -- What the edges of the nodes so far lead to is marked.

@@ -1,7 +1,7 @@
 use Rattle.std.proofs.Common.{◌<◌, List, [], ap, arith, get_or, length, map, take_all, ◌∙◌}
 use Rattle.lemmas.proofs.Edges.{within-more}
 use Rattle.object_reader.specs.declared.block.Block.{Block}
-use Rattle.object_inheritance.specs.Templates.{template_graph, templates_of}
+use Rattle.object_inheritance.specs.claims.Templates.{template_graph, templates_of}
 use Rattle.object_inheritance.proofs.UseLemmas.{ends-more, templates-within}
 use Rattle.object_inheritance.proofs.uses.edges_of.Goals as goal
 

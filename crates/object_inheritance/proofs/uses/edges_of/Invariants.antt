@@ -1,7 +1,7 @@
 use Rattle.std.proofs.Common.{◌≡◌, ℕ, [], get_or, length, map, take}
 use Rattle.std.specs.Prelude.{All}
 use Rattle.graph.specs.Edges.{ends_of, IsWithin}
-use Rattle.object_inheritance.specs.Templates.{templates_of}
+use Rattle.object_inheritance.specs.claims.Templates.{templates_of}
 use Rattle.object_inheritance.proofs.uses.edges_of.Given as goal
 
 -- The edges of the blocks so far.

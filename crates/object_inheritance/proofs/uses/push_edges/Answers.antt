@@ -1,4 +1,4 @@
-use Rattle.object_inheritance.specs.Templates.{template_place}
+use Rattle.object_inheritance.specs.claims.Templates.{template_place}
 use Rattle.object_inheritance.proofs.UseLemmas.{edges-more}
 use Rattle.object_inheritance.proofs.uses.push_edges.Goals as goal
 

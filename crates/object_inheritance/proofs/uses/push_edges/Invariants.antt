@@ -1,6 +1,7 @@
 use Rattle.std.proofs.Common.{◌≡◌, ◌++◌, map, take}
 use Rattle.std.specs.Prelude.{filter_map}
-use Rattle.object_inheritance.specs.Templates.{edge_from, template_place}
+use Rattle.object_inheritance.specs.claims.Templates.{template_place}
+use Rattle.object_inheritance.specs.Templates.{edge_from}
 use Rattle.object_values.specs.Values.{texts}
 use Rattle.object_inheritance.proofs.uses.push_edges.Given as goal
 

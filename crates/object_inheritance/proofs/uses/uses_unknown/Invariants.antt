@@ -1,6 +1,6 @@
 use Rattle.std.proofs.Common.{◌≡◌, false, is_none, take}
 use Rattle.std.specs.List.{list_any}
-use Rattle.object_inheritance.specs.Templates.{template_place}
+use Rattle.object_inheritance.specs.claims.Templates.{template_place}
 use Rattle.object_values.specs.Values.{texts}
 use Rattle.object_inheritance.proofs.uses.uses_unknown.Given as goal
 

@@ -1,7 +1,7 @@
 use Rattle.std.proofs.Common.{◌∙◌, ap, map, sym}
 use Rattle.std.proofs.lemmas.Result.{IfOk-weaker}
 use Rattle.object_groups.specs.Groups.{GroupsOf}
-use Rattle.object_listing.specs.Listing.{Directives}
+use Rattle.object_listing.specs.claims.Listing.{Directives}
 use Rattle.object_listing.proofs.ContactLemmas.{contacts-are, contacts-few}
 use Rattle.object_listing.proofs.contacts.contacts_of.Goals as goal
 

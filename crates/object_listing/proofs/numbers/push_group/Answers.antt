@@ -1,6 +1,6 @@
 use Rattle.std.proofs.Common.{◌++◌, ◌∙◌, List, ap, ℕ}
-use Rattle.object_groups.specs.Groups.{grouping}
-use Rattle.object_groups.specs.Members.{IsMember}
+use Rattle.object_groups.specs.claims.Groups.{grouping}
+use Rattle.object_groups.specs.claims.Members.{IsMember}
 use Rattle.object_listing.proofs.ListedLemmas.{adds-members}
 use Rattle.object_listing.proofs.numbers.push_group.Goals as goal
 

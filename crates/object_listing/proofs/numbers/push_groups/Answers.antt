@@ -1,6 +1,7 @@
 use Rattle.std.proofs.Common.{◌∙◌, get_or, refl, subst, take_all, List, ℕ}
-use Rattle.object_groups.specs.Groups.{grouping, GroupsOf}
-use Rattle.object_groups.specs.Members.{IsMember}
+use Rattle.object_groups.specs.claims.Groups.{grouping}
+use Rattle.object_groups.specs.Groups.{GroupsOf}
+use Rattle.object_groups.specs.claims.Members.{IsMember}
 use Rattle.object_listing.specs.Listing.{Adds}
 use Rattle.object_listing.proofs.ListedLemmas.{adds-more, adds-none, OfSome}
 use Rattle.object_listing.proofs.numbers.push_groups.Goals as goal

@@ -1,6 +1,6 @@
 use Rattle.std.proofs.Common.{◌≡◌, take}
-use Rattle.object_groups.specs.Groups.{grouping}
-use Rattle.object_groups.specs.Members.{IsMember}
+use Rattle.object_groups.specs.claims.Groups.{grouping}
+use Rattle.object_groups.specs.claims.Members.{IsMember}
 use Rattle.object_listing.specs.Listing.{Adds}
 use Rattle.object_listing.proofs.ListedLemmas.{OfSome}
 use Rattle.object_listing.proofs.numbers.push_groups.Given as goal

@@ -1,7 +1,7 @@
 use Rattle.std.proofs.Common.{List, subst, take_all}
 use Rattle.object_names.specs.declared.named.NamedKind.{NamedKind}
 use Rattle.object_names.specs.Doubled.{IsDoubledAmong}
-use Rattle.object_groups.specs.First.{IsFirst}
+use Rattle.object_groups.specs.claims.First.{IsFirst}
 use Rattle.object_names.proofs.DoubledLemmas.{none-yet, one-more}
 use Rattle.object_names.proofs.doubled.first_among.Goals as goal
 

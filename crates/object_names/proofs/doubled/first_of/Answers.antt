@@ -1,6 +1,6 @@
 use Rattle.std.proofs.Common.{◌≡◌, List, false, subst, sym, ℕ}
 use Rattle.object_groups.specs.Names.{is_doubled}
-use Rattle.object_groups.specs.Objects.{names_in}
+use Rattle.object_groups.specs.claims.Objects.{names_in}
 use Rattle.object_names.proofs.DoubledLemmas.{first-here, first-none, none-before, none-here}
 use Rattle.object_names.proofs.doubled.first_of.Goals as goal
 

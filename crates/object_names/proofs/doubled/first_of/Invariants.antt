@@ -1,4 +1,4 @@
-use Rattle.object_groups.specs.Objects.{names_in}
+use Rattle.object_groups.specs.claims.Objects.{names_in}
 use Rattle.object_names.proofs.DoubledLemmas.{HasNoneBefore}
 use Rattle.object_names.proofs.doubled.first_of.Given as goal
 

@@ -1,7 +1,8 @@
 use Rattle.std.proofs.Common.{◌∙◌, List, ap, map, subst, take_all}
 use Rattle.object_names.specs.declared.references.Reference.{Reference}
-use Rattle.object_groups.specs.First.{IsFirst}
-use Rattle.object_names.specs.Unknown.{HasUnknownAmong, is_registered}
+use Rattle.object_groups.specs.claims.First.{IsFirst}
+use Rattle.object_names.specs.claims.Unknown.{is_registered}
+use Rattle.object_names.specs.Unknown.{HasUnknownAmong}
 use Rattle.object_names.proofs.UnknownLemmas.{none-yet, one-more}
 use Rattle.object_names.proofs.unknown.first_among.Goals as goal
 

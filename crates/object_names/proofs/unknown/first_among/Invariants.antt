@@ -1,5 +1,5 @@
 use Rattle.std.proofs.Common.{take}
-use Rattle.object_groups.specs.First.{IsFirst}
+use Rattle.object_groups.specs.claims.First.{IsFirst}
 use Rattle.object_names.specs.Unknown.{HasUnknownAmong}
 use Rattle.object_names.proofs.unknown.first_among.Given as goal
 

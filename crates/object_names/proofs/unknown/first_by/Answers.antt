@@ -1,11 +1,12 @@
 use Rattle.std.proofs.Common.{◌∙◌, List, ap, map, sym}
 use Rattle.std.proofs.lemmas.Result.{IfOk-weaker}
-use Rattle.object_groups.specs.Objects.{names_in, ObjectsOf}
+use Rattle.object_groups.specs.claims.Objects.{names_in}
+use Rattle.object_groups.specs.Objects.{ObjectsOf}
 use Rattle.object_inheritance.specs.Columns.{Column}
 use Rattle.object_reader.specs.declared.block.Block.{Block}
 use Rattle.object_names.specs.declared.named.NamedKind.{NamedKind}
-use Rattle.object_names.specs.Named.{block_kind}
-use Rattle.object_names.specs.Unknown.{is_registered}
+use Rattle.object_names.specs.claims.Named.{block_kind}
+use Rattle.object_names.specs.claims.Unknown.{is_registered}
 use Rattle.object_names.proofs.UnknownLemmas.{of-values}
 use Rattle.object_names.proofs.unknown.first_by.Goals as goal
 

@@ -1,4 +1,4 @@
-use Rattle.object_names.specs.References.{reading_of}
+use Rattle.object_names.specs.claims.References.{reading_of}
 use Rattle.object_names.specs.Unknown.{AreFound, has_unknown_by}
 use Rattle.object_names.proofs.UnknownLemmas.{HasNoneBefore}
 use Rattle.object_names.proofs.unknown.first_in.Given as goal

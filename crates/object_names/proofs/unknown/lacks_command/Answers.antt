@@ -1,10 +1,11 @@
 use Rattle.std.proofs.Common.{◌∙◌, Bor, List, ap, sym, take_all, ℕ}
 use Rattle.std.specs.List.{list_any}
 use Rattle.lemmas.proofs.Searches.{any-at, none-more}
-use Rattle.object_groups.specs.Names.{lacks}
+use Rattle.object_groups.specs.claims.Names.{lacks}
 use Rattle.object_names.proofs.EntryLemmas.{any-of_each}
 use Rattle.object_names.proofs.unknown.lacks_command.Goals as goal
-use Rattle.object_values.specs.Values.{command_name, texts}
+use Rattle.object_values.specs.claims.Values.{command_name}
+use Rattle.object_values.specs.Values.{texts}
 
 pub returns-then-lacks : goal.returns-then-lacks
 returns-then-lacks c =

@@ -1,5 +1,5 @@
 use Rattle.std.proofs.Common.{◌≡◌, map, take}
-use Rattle.object_names.specs.Unknown.{is_registered}
+use Rattle.object_names.specs.claims.Unknown.{is_registered}
 use Rattle.object_names.proofs.unknown.registered_blocks.Given as goal
 
 -- The marks of the blocks so far.

@@ -1,5 +1,5 @@
 use Rattle.std.proofs.Common.{List, ap, take_all, ◌∙◌}
-use Rattle.object_pairs.specs.Members.{place_of_pair}
+use Rattle.object_pairs.specs.claims.Members.{place_of_pair}
 use Rattle.object_pairs.specs.Pairs.{pairs_in}
 use Rattle.object_pairs.proofs.PairLemmas.{places-more, Text}
 use Rattle.object_pairs.proofs.members.places_of_pairs.Goals as goal

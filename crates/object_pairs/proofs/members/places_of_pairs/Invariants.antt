@@ -1,6 +1,6 @@
 use Rattle.std.proofs.Common.{◌≡◌, take}
 use Rattle.std.specs.List.{filter_map}
-use Rattle.object_pairs.specs.Members.{place_of_pair}
+use Rattle.object_pairs.specs.claims.Members.{place_of_pair}
 use Rattle.object_pairs.specs.Pairs.{pairs_in}
 use Rattle.object_pairs.proofs.members.places_of_pairs.Given as goal
 

@@ -1,7 +1,7 @@
 use Rattle.std.proofs.Common.{◌∙◌, List, ap}
 use Rattle.std.specs.List.{filter_map}
 use Rattle.std.proofs.lemmas.Result.{IfOk-weaker}
-use Rattle.object_pairs.specs.Members.{place_of_pair}
+use Rattle.object_pairs.specs.claims.Members.{place_of_pair}
 use Rattle.object_pairs.specs.Pairs.{pairs_in}
 use Rattle.object_pairs.proofs.MemberLemmas.{places-odd, places-pairs}
 use Rattle.object_pairs.proofs.PairLemmas.{odd-read, pairs-read, Text}

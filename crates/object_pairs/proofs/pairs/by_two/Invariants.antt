@@ -1,6 +1,7 @@
 use Rattle.std.proofs.Common.{◌≡◌, ◌++◌, length}
 use Rattle.std.specs.Option.{option_map}
-use Rattle.object_pairs.specs.Pairs.{by_two, pairs_in}
+use Rattle.object_pairs.specs.claims.Pairs.{by_two}
+use Rattle.object_pairs.specs.Pairs.{pairs_in}
 use Rattle.object_pairs.proofs.pairs.by_two.Given as goal
 use Rattle.object_values.specs.Values.{texts}
 

@@ -1,5 +1,5 @@
 use Rattle.std.proofs.Common.{rules, ◌≡◌, ◌∙◌, ap, false, sym}
-use Rattle.object_groups.specs.Objects.{objects_in}
+use Rattle.object_groups.specs.claims.Objects.{objects_in}
 use Rattle.object_reader.specs.declared.block.BlockKind.{BlockKind}
 use Rattle.object_pairs.specs.Wanted.{lacks_at}
 use Rattle.object_pairs.proofs.UnknownLemmas.{first-here, first-none, none-lacks, none-more}

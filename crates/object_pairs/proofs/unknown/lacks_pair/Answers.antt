@@ -1,6 +1,6 @@
 use Rattle.std.proofs.Common.{None, Some, List, ap, ◌∙◌}
 use Rattle.std.specs.List.{list_all}
-use Rattle.object_groups.specs.Objects.{list_at}
+use Rattle.object_groups.specs.claims.Objects.{list_at}
 use Rattle.object_pairs.specs.Pairs.{pairs_in}
 use Rattle.object_pairs.specs.Wanted.{is_found}
 use Rattle.object_pairs.proofs.PairLemmas.{list-read, odd-read, pairs-read, Text}

@@ -1,5 +1,6 @@
 use Rattle.std.proofs.Common.{◌≡◌, ◌∙◌, List, [], ap, arith, get_or, length, refl, subst, sym, ℕ}
-use Rattle.object_groups.specs.Objects.{names_in, objects_in, ObjectsOf}
+use Rattle.object_groups.specs.claims.Objects.{names_in, objects_in}
+use Rattle.object_groups.specs.Objects.{ObjectsOf}
 use Rattle.object_reader.specs.declared.block.BlockKind.TheVariants.{Service}
 use Rattle.object_services.specs.Numbers.{Key}
 use Rattle.object_pairs.specs.Wanted.{AddsFound, AreFound, AreFoundBelow}

@@ -1,7 +1,7 @@
 use Rattle.std.proofs.Common.{None, Some, subst, List}
 use Rattle.std.specs.Prelude.{All}
 use Rattle.std.proofs.lemmas.Result.{on_ok_weaker}
-use Rattle.object_groups.specs.Objects.{list_at}
+use Rattle.object_groups.specs.claims.Objects.{list_at}
 use Rattle.object_pairs.specs.Pairs.{pairs_in}
 use Rattle.object_pairs.specs.Wanted.{IsWanted}
 use Rattle.object_pairs.proofs.PairLemmas.{list-read, odd-read, pairs-read, Text}

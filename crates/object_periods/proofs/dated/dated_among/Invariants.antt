@@ -1,7 +1,7 @@
 use Rattle.std.proofs.Common.{◌≡◌, take}
 use Rattle.std.specs.Prelude.{filter_map}
 use Rattle.object_inheritance.specs.DatedLines.{named}
-use Rattle.object_periods.specs.Periods.{dated_in}
+use Rattle.object_periods.specs.claims.Periods.{dated_in}
 use Rattle.object_periods.proofs.dated.dated_among.Given as goal
 
 -- The dated lines of the lines so far.

@@ -3,7 +3,7 @@ use Rattle.std.specs.List.{range_with_len}
 use Rattle.std.specs.Prelude.{All}
 use Rattle.std.proofs.lemmas.List.Elements.{All-weaker}
 use Rattle.lemmas.proofs.Lists.{range_below}
-use Rattle.object_groups.specs.Objects.{names_in, objects_in}
+use Rattle.object_groups.specs.claims.Objects.{names_in, objects_in}
 use Rattle.object_reader.specs.declared.block.BlockKind.{BlockKind}
 use Rattle.object_periods.specs.Loops.{rule_edge}
 use Rattle.object_periods.proofs.RuleLemmas.{are-exclusions, lead-whole}

@@ -1,7 +1,7 @@
 use Rattle.std.proofs.Common.{◌∙◌, List, ap, map, subst, sym}
 use Rattle.due_model.specs.declared.config.PeriodId.{PeriodId}
 use Rattle.object_inheritance.specs.LineSearch.{AreMarks}
-use Rattle.object_periods.specs.Periods.{AreDatedOf}
+use Rattle.object_periods.specs.claims.Periods.{AreDatedOf}
 use Rattle.object_reader.specs.declared.block.Block.{Block}
 use Rattle.object_periods.proofs.PeriodLemmas.{excludes-are, name-is}
 use Rattle.object_periods.proofs.periods.period_at.Goals as goal

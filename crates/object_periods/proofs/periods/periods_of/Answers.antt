@@ -1,11 +1,12 @@
 use Rattle.std.proofs.Common.{◌≡◌, ◌<◌, ◌∙◌, List, Some, ap, arith, get_or, length, subst, sym, ℕ}
 use Rattle.std.specs.Prelude.{slice_get}
 use Rattle.std.proofs.lemmas.Option.{slice_get-get_or}
-use Rattle.object_groups.specs.Objects.{objects_in, ObjectsOf}
+use Rattle.object_groups.specs.claims.Objects.{objects_in}
+use Rattle.object_groups.specs.Objects.{ObjectsOf}
 use Rattle.object_reader.specs.declared.block.Block.{Block}
 use Rattle.object_reader.specs.declared.block.BlockKind.TheVariants.{TimePeriod}
 use Rattle.object_inheritance.specs.LineSearch.{AreMarks}
-use Rattle.object_periods.specs.Periods.{IsPeriodOf}
+use Rattle.object_periods.specs.claims.Periods.{IsPeriodOf}
 use Rattle.object_periods.proofs.PeriodLemmas.{periods-more}
 use Rattle.object_periods.proofs.periods.periods_of.Goals as goal
 

@@ -1,6 +1,6 @@
 use Rattle.std.proofs.Common.{◌++◌, ◌∙◌, List, ap, ℕ}
-use Rattle.object_service_groups.specs.Groups.{grouping}
-use Rattle.object_service_groups.specs.Members.{IsMember}
+use Rattle.object_service_groups.specs.claims.Groups.{grouping}
+use Rattle.object_service_groups.specs.claims.Members.{IsMember}
 use Rattle.object_reached.proofs.AddsLemmas.{adds-list}
 use Rattle.object_reached.proofs.numbers.push_group.Goals as goal
 

@@ -3,8 +3,8 @@ use Rattle.std.specs.Prelude.{Contains}
 use Rattle.std.proofs.lemmas.List.{take_more}
 use Rattle.object_reached.specs.Listed.{AddsMembers}
 use Rattle.object_reader.specs.declared.block.Block.{Block}
-use Rattle.object_service_groups.specs.Groups.{grouping}
-use Rattle.object_service_groups.specs.Members.{IsMember}
+use Rattle.object_service_groups.specs.claims.Groups.{grouping}
+use Rattle.object_service_groups.specs.claims.Members.{IsMember}
 use Rattle.object_reached.proofs.AddsLemmas.{adds-next, adds-none, adds-of_one}
 use Rattle.object_reached.proofs.numbers.push_groups.Goals as goal
 

@@ -1,6 +1,8 @@
 use Rattle.std.proofs.Common.{◌∙◌, List, ap, arith, length, subst, sym, ℕ}
-use Rattle.object_groups.specs.Groups.{GroupsOf, object_kind}
-use Rattle.object_groups.specs.Objects.{names_in, ObjectsOf}
+use Rattle.object_groups.specs.claims.Groups.{object_kind}
+use Rattle.object_groups.specs.Groups.{GroupsOf}
+use Rattle.object_groups.specs.claims.Objects.{names_in}
+use Rattle.object_groups.specs.Objects.{ObjectsOf}
 use Rattle.object_reached.specs.Reached.{AreAfter}
 use Rattle.object_reached.proofs.ReachedLemmas.{services-are, written-over}
 use Rattle.object_reached.proofs.reached.services_at.Goals as goal

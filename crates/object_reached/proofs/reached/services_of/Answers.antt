@@ -1,9 +1,11 @@
 use Rattle.std.proofs.Common.{◌≡◌, ◌+◌, ◌<◌, ◌^◌, ◌∙◌, List, ap, length, subst, sym, ℕ}
 use Rattle.std.specs.Prelude.{All}
-use Rattle.object_groups.specs.Groups.{GroupsOf, object_kind}
-use Rattle.object_groups.specs.Objects.{names_in, objects_in, ObjectsOf}
+use Rattle.object_groups.specs.claims.Groups.{object_kind}
+use Rattle.object_groups.specs.Groups.{GroupsOf}
+use Rattle.object_groups.specs.claims.Objects.{names_in, objects_in}
+use Rattle.object_groups.specs.Objects.{ObjectsOf}
 use Rattle.object_reader.specs.declared.block.BlockKind.TheVariants.{Host, Service}
-use Rattle.object_services.specs.Numbers.{pairs_of}
+use Rattle.object_services.specs.claims.Numbers.{pairs_of}
 use Rattle.object_reached.proofs.ReachedLemmas.{hosts-below}
 use Rattle.object_reached.proofs.reached.services_of.Goals as goal
 

@@ -1,6 +1,6 @@
 use Rattle.std.proofs.Common.{◌≡◌, ◌+◌, ◌≤◌, length, take}
 use Rattle.std.specs.List.{suffix_len}
-use Rattle.object_reader.specs.Blanks.{is_blank}
+use Rattle.object_reader.specs.claims.Blanks.{is_blank}
 use Rattle.object_reader.proofs.blanks.trim_end.Given as goal
 
 abbrev pub invariant-loop-end : goal.invariant-loop-end

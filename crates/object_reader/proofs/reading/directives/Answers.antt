@@ -2,7 +2,8 @@ use Rattle.std.proofs.Common.{length, ap, sym, ◌∙◌, arith}
 use Rattle.std.specs.Cow.{cow_slice_items}
 use Rattle.std.proofs.lemmas.Result.{err_from_is_err_and}
 use Rattle.object_reader.specs.Blocks.{at_line, directive_of}
-use Rattle.object_reader.specs.Statements.{statements_in, is_close, is_define}
+use Rattle.object_reader.specs.claims.Statements.{is_close, is_define}
+use Rattle.object_reader.specs.Statements.{statements_in}
 use Rattle.object_reader.proofs.Blocks.{fault_in_block, end_in_block, close_in_block, define_in_block, no_value_in_block, directive_in_block, fails_along}
 use Rattle.object_reader.proofs.reading.directives.Goals as goal
 use Rattle.object_reader.proofs.reading.directives.Goals.{in-Some+else-is_close+then-is_define, in_default}

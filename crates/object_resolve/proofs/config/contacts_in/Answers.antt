@@ -1,4 +1,4 @@
-use Rattle.due_model.specs.Limits.{max_periods}
+use Rattle.due_model.specs.claims.Limits.{max_periods}
 use Rattle.object_reader.specs.declared.block.BlockKind.TheVariants.{TimePeriod}
 use Rattle.object_resolve.proofs.PlaceLemmas.{few-names}
 use Rattle.object_resolve.proofs.config.contacts_in.Goals as goal

@@ -1,7 +1,7 @@
 use Rattle.std.proofs.Common.{◌≡◌, List, ℕ, rules, subst, IfOk}
-use Rattle.object_dependencies.specs.Entries.{AreDependencies}
+use Rattle.object_dependencies.specs.claims.Entries.{AreDependencies}
 use Rattle.object_dependencies.specs.Pairs.{BlocksOf}
-use Rattle.object_groups.specs.Objects.{names_in}
+use Rattle.object_groups.specs.claims.Objects.{names_in}
 use Rattle.object_reader.specs.declared.block.BlockKind.TheVariants.{TimePeriod}
 use Rattle.object_resolve.proofs.config.dependencies_in.Goals as goal
 

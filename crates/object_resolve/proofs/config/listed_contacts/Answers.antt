@@ -1,4 +1,4 @@
-use Rattle.due_model.specs.Limits.{max_contacts}
+use Rattle.due_model.specs.claims.Limits.{max_contacts}
 use Rattle.object_reader.specs.declared.block.BlockKind.TheVariants.{Contact}
 use Rattle.object_resolve.proofs.PlaceLemmas.{few-names}
 use Rattle.object_resolve.proofs.config.listed_contacts.Goals as goal

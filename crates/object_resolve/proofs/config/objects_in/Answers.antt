@@ -1,5 +1,5 @@
 use Rattle.std.proofs.Common.{List, Bool, ap, subst, sym}
-use Rattle.due_model.specs.Limits.{max_periods}
+use Rattle.due_model.specs.claims.Limits.{max_periods}
 use Rattle.object_listing.specs.Contacts.{AskedContacts}
 use Rattle.object_reader.specs.declared.block.BlockKind.TheVariants.{TimePeriod}
 use Rattle.object_resolve.proofs.AskedLemmas.{hosts-asked, services-asked}

@@ -1,7 +1,8 @@
 use Rattle.std.proofs.Common.{subst, length}
 use Rattle.std.specs.Prelude.{IfErr, IfOk}
 use Rattle.object_dependencies.specs.Limits as dependent
-use Rattle.object_dependencies.specs.Pairs.{ArePairsBelow, BlocksOf}
+use Rattle.object_dependencies.specs.claims.Pairs.{ArePairsBelow}
+use Rattle.object_dependencies.specs.Pairs.{BlocksOf}
 use Rattle.object_resolve.proofs.dependencies.pairs_in.Goals as goal
 
 pub returns-clause-pairs : goal.returns-clause-pairs

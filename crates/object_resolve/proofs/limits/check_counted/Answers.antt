@@ -1,10 +1,10 @@
 use Rattle.std.proofs.Common.{◌∙◌, List, ap, subst, sym}
 use Rattle.object_groups.specs.declared.groups.GroupKind.TheVariants.{HostGroups}
-use Rattle.object_groups.specs.Objects.{objects_in}
+use Rattle.object_groups.specs.claims.Objects.{objects_in}
 use Rattle.object_reader.specs.declared.block.Block.{Block}
 use Rattle.object_reader.specs.declared.block.BlockKind.TheVariants.{Service}
 use Rattle.object_resolve.specs.Tables.{AreServices}
-use Rattle.object_services.specs.Limits.{AreHostLists}
+use Rattle.object_services.specs.claims.Limits.{AreHostLists}
 use Rattle.object_resolve.proofs.limits.check_counted.Goals as goal
 
 pub services_of-requires-clause-hosts : goal.services_of-requires-clause-hosts

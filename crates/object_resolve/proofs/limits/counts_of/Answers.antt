@@ -1,7 +1,7 @@
 use Rattle.std.proofs.Common.{refl, subst}
 use Rattle.std.specs.Prelude.{ℕ, None, Option, Some}
-use Rattle.object_groups.specs.First.{IsFirst}
-use Rattle.object_resolve.specs.Limits.{PassesOther}
+use Rattle.object_groups.specs.claims.First.{IsFirst}
+use Rattle.object_resolve.specs.claims.Limits.{PassesOther}
 use Rattle.object_resolve.proofs.LimitLemmas.{dependencies-first, no-dependencies, rest-first}
 use Rattle.object_resolve.proofs.limits.counts_of.Goals as goal
 

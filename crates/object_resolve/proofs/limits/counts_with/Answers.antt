@@ -1,8 +1,9 @@
 use Rattle.std.proofs.Common.{sym, subst}
 use Rattle.std.specs.Prelude.{List, None}
-use Rattle.object_groups.specs.First.{IsFirst}
+use Rattle.object_groups.specs.claims.First.{IsFirst}
 use Rattle.object_reader.specs.declared.block.Block.{Block}
-use Rattle.object_resolve.specs.Limits.{AreCounted, PassesRest}
+use Rattle.object_resolve.specs.claims.Limits.{PassesRest}
+use Rattle.object_resolve.specs.Limits.{AreCounted}
 use Rattle.object_resolve.proofs.limits.counts_with.Goals as goal
 
 pub escalated_in-escalated-requires-clause-hosts : goal.escalated_in-escalated-requires-clause-hosts

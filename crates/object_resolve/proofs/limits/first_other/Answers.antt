@@ -2,8 +2,9 @@ use Rattle.std.proofs.Common.{◌∙◌, ap}
 use Rattle.std.specs.Prelude.{slice_get}
 use Rattle.std.specs.Option.{option_and_then}
 use Rattle.object_groups.specs.First.{lower}
-use Rattle.due_model.specs.Limits.{max_contacts, max_lanes, max_periods}
-use Rattle.object_groups.specs.Objects.{objects_in, ObjectsOf}
+use Rattle.due_model.specs.claims.Limits.{max_contacts, max_lanes, max_periods}
+use Rattle.object_groups.specs.claims.Objects.{objects_in}
+use Rattle.object_groups.specs.Objects.{ObjectsOf}
 use Rattle.object_resolve.proofs.LimitLemmas.{few-if_none, first-other}
 use Rattle.object_resolve.proofs.limits.first_other.Goals as goal
 

@@ -1,12 +1,13 @@
 use Rattle.std.proofs.Common.{refl, sym, subst}
 use Rattle.std.specs.Prelude.{◌<◌, List, length, None, Some}
-use Rattle.object_groups.specs.First.{IsFirst}
+use Rattle.object_groups.specs.claims.First.{IsFirst}
 use Rattle.object_reader.specs.declared.block.Block.{Block}
 use Rattle.object_resolve.specs.Fault.{IsAmong, IsOfPlace}
-use Rattle.object_resolve.specs.Limits.{AreCounted, PassesRest}
+use Rattle.object_resolve.specs.claims.Limits.{PassesRest}
+use Rattle.object_resolve.specs.Limits.{AreCounted}
 use Rattle.object_faults.specs.declared.load_fault.BlockFault.TheVariants.{TooMany}
 use Rattle.object_resolve.proofs.LimitLemmas.{few-escalations, no-escalations, over-first, over-refused, over-within}
-use Rattle.object_resolve.specs.Resolve.{IsFirstOver}
+use Rattle.object_resolve.specs.claims.Resolve.{IsFirstOver}
 use Rattle.object_resolve.proofs.limits.over_rest.Goals as goal
 use Rattle.object_resolve.proofs.limits.over_rest.Goals.{in-Err, in-Ok}
 

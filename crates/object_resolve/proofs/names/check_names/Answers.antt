@@ -1,9 +1,9 @@
 use Rattle.std.proofs.Common.{◌∙◌, sym, subst}
 use Rattle.std.specs.Prelude.{List, Option, ℕ, length, ◌<◌}
-use Rattle.object_groups.specs.First.{IsFirst}
+use Rattle.object_groups.specs.claims.First.{IsFirst}
 use Rattle.object_reader.specs.declared.block.Block.{Block}
 use Rattle.object_resolve.specs.Fault.{IsOfPlace}
-use Rattle.object_resolve.specs.Names.{IsDoubledAt, IsMisnamed}
+use Rattle.object_resolve.specs.claims.Names.{IsDoubledAt, IsMisnamed}
 use Rattle.object_faults.specs.declared.load_fault.BlockFault.TheVariants.{Doubled, UnknownName}
 use Rattle.object_resolve.proofs.NameLemmas.{fault-doubled, fault-unknown, first-misnamed, misnamed-refused, misnamed-within, said-other, said-there}
 use Rattle.object_resolve.proofs.names.check_names.Goals as goal

@@ -1,8 +1,8 @@
 use Rattle.std.proofs.Common.{sym, subst}
 use Rattle.std.specs.Prelude.{Option, ℕ}
-use Rattle.object_groups.specs.First.{IsFirst}
-use Rattle.object_resolve.specs.Names.{GivesDoubledService, IsDoubledAt}
-use Rattle.object_names.specs.Doubled as names
+use Rattle.object_groups.specs.claims.First.{IsFirst}
+use Rattle.object_resolve.specs.claims.Names.{GivesDoubledService, IsDoubledAt}
+use Rattle.object_names.specs.claims.Doubled as names
 use Rattle.object_resolve.proofs.NameLemmas.{either-first}
 use Rattle.object_resolve.specs.declared.tables.Tables.{Tables}
 use Rattle.object_resolve.proofs.names.first_doubled.Goals as goal

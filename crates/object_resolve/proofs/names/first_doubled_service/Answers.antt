@@ -1,7 +1,7 @@
 use Rattle.std.proofs.Common.{subst}
 use Rattle.std.specs.Prelude.{ℕ, Option}
-use Rattle.object_groups.specs.First.{IsFirst}
-use Rattle.object_services.specs.Doubled as services
+use Rattle.object_groups.specs.claims.First.{IsFirst}
+use Rattle.object_services.specs.claims.Doubled as services
 use Rattle.object_resolve.proofs.NameLemmas.{first-of_service, no-service}
 use Rattle.object_resolve.proofs.names.first_doubled_service.Goals as goal
 

@@ -1,8 +1,8 @@
 use Rattle.std.proofs.Common.{subst, sym}
 use Rattle.std.specs.Prelude.{ℕ, Option}
-use Rattle.object_groups.specs.First.{IsFirst}
-use Rattle.object_names.specs.Unknown.{HasUnknown}
-use Rattle.object_resolve.specs.Names.{HasUnknownPair, IsUnknownAt}
+use Rattle.object_groups.specs.claims.First.{IsFirst}
+use Rattle.object_names.specs.claims.Unknown.{HasUnknown}
+use Rattle.object_resolve.specs.claims.Names.{HasUnknownPair, IsUnknownAt}
 use Rattle.object_resolve.proofs.NameLemmas.{either-first}
 use Rattle.object_resolve.proofs.names.first_unknown.Goals as goal
 

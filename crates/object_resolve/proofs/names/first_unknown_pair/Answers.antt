@@ -1,11 +1,11 @@
 use Rattle.std.proofs.Common.{subst, sym}
 use Rattle.std.specs.Prelude.{ℕ, Option}
-use Rattle.object_groups.specs.First.{IsFirst}
-use Rattle.object_pairs.specs.Members.{HasUnknownMember}
-use Rattle.object_resolve.specs.Names.{HasUnknownPair}
+use Rattle.object_groups.specs.claims.First.{IsFirst}
+use Rattle.object_pairs.specs.claims.Members.{HasUnknownMember}
+use Rattle.object_resolve.specs.claims.Names.{HasUnknownPair}
 use Rattle.object_resolve.proofs.NameLemmas.{either-first}
 use Rattle.object_resolve.proofs.names.first_unknown_pair.Goals as goal
-use Rattle.object_unknown_services.specs.Unknown.{HasUnknownService}
+use Rattle.object_unknown_services.specs.claims.Unknown.{HasUnknownService}
 
 pub returns-clause-first : goal.returns-clause-first
 returns-clause-first c =

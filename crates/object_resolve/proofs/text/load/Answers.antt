@@ -1,8 +1,8 @@
 use Rattle.std.proofs.Common.{◌≡◌, ◌∙◌, subst}
 use Rattle.std.proofs.lemmas.Result.{err_from_is_err_and}
-use Rattle.object_resolve.specs.Resolve.{IsRefusal, IsResolved}
+use Rattle.object_resolve.specs.claims.Resolve.{IsRefusal, IsResolved}
 use Rattle.object_resolve.specs.Fault.{IsAmong}
-use Rattle.object_resolve.specs.Text.{blocks_read}
+use Rattle.object_resolve.specs.claims.Text.{blocks_read}
 use Rattle.object_resolve.proofs.TextLemmas.{blocks-fault, blocks-only, read-fault, read-only, read-same, read-unrefused, text-unrefused}
 use Rattle.object_resolve.proofs.text.load.Goals as goal
 

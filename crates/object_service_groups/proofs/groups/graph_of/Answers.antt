@@ -1,9 +1,10 @@
 use Rattle.std.proofs.Common.{◌≡◌, ◌+◌, ◌∙◌, List, ap, arith, eqb-true, length, refl, sym, ℕ}
 use Rattle.std.proofs.lemmas.Result.{IfOk-weaker}
-use Rattle.object_groups.specs.Objects.{names_in, objects_in, ObjectsOf}
+use Rattle.object_groups.specs.claims.Objects.{names_in, objects_in}
+use Rattle.object_groups.specs.Objects.{ObjectsOf}
 use Rattle.object_reader.specs.declared.block.BlockKind.TheVariants.{Service, ServiceGroup}
-use Rattle.object_services.specs.Numbers.{pairs_of}
-use Rattle.object_service_groups.specs.Groups.{grouping}
+use Rattle.object_services.specs.claims.Numbers.{pairs_of}
+use Rattle.object_service_groups.specs.claims.Groups.{grouping}
 use Rattle.object_service_groups.proofs.GroupLemmas.{count-same, graph-is, kept-is, named-long, nodes-are}
 use Rattle.object_service_groups.proofs.groups.graph_of.Goals as goal
 

@@ -1,9 +1,10 @@
 use Rattle.std.proofs.Common.{◌+◌, ◌≤◌, ◌^◌, ◌∙◌, List, ap, arith, length, refl, ℕ}
 use Rattle.std.proofs.lemmas.Result.{IfOk-weaker}
-use Rattle.object_groups.specs.Objects.{names_in, objects_in, ObjectsOf}
+use Rattle.object_groups.specs.claims.Objects.{names_in, objects_in}
+use Rattle.object_groups.specs.Objects.{ObjectsOf}
 use Rattle.object_reader.specs.declared.block.BlockKind.TheVariants.{Service}
-use Rattle.object_services.specs.Hosts.{AreHosts}
-use Rattle.object_services.specs.Numbers.{pairs_of}
+use Rattle.object_services.specs.claims.Hosts.{AreHosts}
+use Rattle.object_services.specs.claims.Numbers.{pairs_of}
 use Rattle.object_service_groups.proofs.ElementLemmas.{all-owners, owners-long}
 use Rattle.object_service_groups.proofs.GroupLemmas.{all-lead, owners-below, zip-long}
 use Rattle.object_service_groups.proofs.groups.push_all.Goals as goal

@@ -3,10 +3,11 @@ use Rattle.std.specs.Prelude.{IfOk}
 use Rattle.graph.specs.declared.edges.Edge.{Edge}
 use Rattle.object_groups.specs.declared.lists.Direction.TheVariants.{ToNames}
 use Rattle.object_groups.specs.ListEdges.{LeadOver, list_edges}
-use Rattle.object_groups.specs.Objects.{objects_in, ObjectsOf}
+use Rattle.object_groups.specs.claims.Objects.{objects_in}
+use Rattle.object_groups.specs.Objects.{ObjectsOf}
 use Rattle.object_reader.specs.declared.block.BlockKind.TheVariants.{ServiceGroup}
-use Rattle.object_services.specs.Numbers.{Pair}
-use Rattle.object_service_groups.specs.Groups.{named_in}
+use Rattle.object_services.specs.claims.Numbers.{Pair}
+use Rattle.object_service_groups.specs.claims.Groups.{named_in}
 use Rattle.object_service_groups.proofs.GroupLemmas.{named-are}
 use Rattle.object_service_groups.proofs.groups.push_named.Goals as goal
 

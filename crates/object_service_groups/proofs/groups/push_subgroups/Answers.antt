@@ -3,7 +3,8 @@ use Rattle.std.specs.Prelude.{IfOk, codes}
 use Rattle.graph.specs.declared.edges.Edge.{Edge}
 use Rattle.object_groups.specs.declared.lists.Direction.TheVariants.{ToNames}
 use Rattle.object_groups.specs.ListEdges.{LeadOver}
-use Rattle.object_groups.specs.Objects.{names_in, objects_in, ObjectsOf}
+use Rattle.object_groups.specs.claims.Objects.{names_in, objects_in}
+use Rattle.object_groups.specs.Objects.{ObjectsOf}
 use Rattle.object_reader.specs.declared.block.BlockKind.TheVariants.{ServiceGroup}
 use Rattle.object_service_groups.proofs.GroupLemmas.{listed-are}
 use Rattle.object_service_groups.proofs.groups.push_subgroups.Goals as goal

@@ -1,7 +1,7 @@
 use Rattle.std.proofs.Common.{◌≡◌, ◌∙◌, [], List, ap, arith, length, replicate, ℕ}
 use Rattle.std.specs.Prelude.{slice_index_or}
 use Rattle.std.specs.List.{flat_map, range_with_len}
-use Rattle.object_service_groups.specs.Groups.{owners_of}
+use Rattle.object_service_groups.specs.claims.Groups.{owners_of}
 use Rattle.object_service_groups.proofs.NumberLemmas.{blocks-more}
 use Rattle.object_service_groups.proofs.owners.owners_of.Goals as goal
 

@@ -4,7 +4,7 @@ use Rattle.std.specs.List.{range_with_len}
 use Rattle.std.proofs.lemmas.List.Elements.{All-append, All-nil}
 use Rattle.graph.specs.declared.edges.Edge.{Edge}
 use Rattle.graph.specs.Edges.{ends_of, IsWithin}
-use Rattle.object_groups.specs.Names.{number_of}
+use Rattle.object_groups.specs.claims.Names.{number_of}
 use Rattle.object_services.specs.Alike.{is_alike}
 use Rattle.object_services.proofs.AlikeLemmas.{alike-more, edge-within, number-few}
 use Rattle.object_services.proofs.doubled.alike_edges.Goals as goal

@@ -1,7 +1,9 @@
 use Rattle.std.proofs.Common.{◌≡◌, ◌<◌, ◌∙◌, List, arith, ap, length, refl, ℕ}
 use Rattle.graph.specs.Reach.{Found}
-use Rattle.object_groups.specs.Groups.{GroupsOf, object_kind}
-use Rattle.object_groups.specs.Objects.{names_in, ObjectsOf}
+use Rattle.object_groups.specs.claims.Groups.{object_kind}
+use Rattle.object_groups.specs.Groups.{GroupsOf}
+use Rattle.object_groups.specs.claims.Objects.{names_in}
+use Rattle.object_groups.specs.Objects.{ObjectsOf}
 use Rattle.object_reader.specs.declared.block.BlockKind.TheVariants.{Host}
 use Rattle.object_services.specs.Alike.{alike}
 use Rattle.object_services.proofs.AlikeLemmas.{alike-pairs, doubled-all, doubled-more, doubled-none}

@@ -3,10 +3,11 @@ use Rattle.std.specs.Prelude.{All}
 use Rattle.std.specs.List.{list_any}
 use Rattle.std.specs.List.Sorted.{IsStrictlyIncreasing}
 use Rattle.graph.specs.Reach.{Found}
-use Rattle.object_groups.specs.Objects.{objects_in, ObjectsOf}
-use Rattle.object_groups.specs.First.{IsFirst}
+use Rattle.object_groups.specs.claims.Objects.{objects_in}
+use Rattle.object_groups.specs.Objects.{ObjectsOf}
+use Rattle.object_groups.specs.claims.First.{IsFirst}
 use Rattle.object_services.specs.Alike.{is_among, SharesAmong}
-use Rattle.object_services.specs.Hosts.{AreHosts}
+use Rattle.object_services.specs.claims.Hosts.{AreHosts}
 use Rattle.object_services.proofs.DoubledLemmas.{hosts-within, scanned-more, scanned-none, shares-here}
 use Rattle.object_services.proofs.doubled.first_sharing.Goals as goal
 

@@ -1,12 +1,12 @@
 use Rattle.std.proofs.Common.{◌≤◌, List, ap, arith, length, subst, sym}
 use Rattle.std.proofs.lemmas.Result.{IfOk-weaker}
-use Rattle.due_model.specs.Limits.{max_objects}
+use Rattle.due_model.specs.claims.Limits.{max_objects}
 use Rattle.due_model.specs.declared.config.Object.{Object}
-use Rattle.object_groups.specs.Objects.{objects_in}
+use Rattle.object_groups.specs.claims.Objects.{objects_in}
 use Rattle.object_listing.specs.Contacts.{AskedContacts}
 use Rattle.object_reader.specs.declared.block.Block.{Block}
 use Rattle.object_reader.specs.declared.block.BlockKind.TheVariants.{Host}
-use Rattle.object_settings.specs.Settings.{AreObjectsOf}
+use Rattle.object_settings.specs.claims.Settings.{AreObjectsOf}
 use Rattle.object_settings.proofs.ObjectLemmas.{hosts-few, objects-few}
 use Rattle.object_settings.proofs.objects.objects_of.Goals as goal
 

@@ -1,6 +1,7 @@
 use Rattle.std.proofs.Common.{◌≡◌, ◌≤◌, ◌∙◌, List, ap, arith, length, subst, take_all, ℕ}
 use Rattle.std.specs.List.{AllZip}
-use Rattle.object_groups.specs.Objects.{names_in, objects_in, ObjectsOf}
+use Rattle.object_groups.specs.claims.Objects.{names_in, objects_in}
+use Rattle.object_groups.specs.Objects.{ObjectsOf}
 use Rattle.object_reader.specs.declared.block.BlockKind.TheVariants.{Host}
 use Rattle.object_settings.specs.Own.{IsOwnOfHost}
 use Rattle.object_settings.proofs.ObjectLemmas.{host-asked, owns-more}

@@ -1,8 +1,9 @@
 use Rattle.std.proofs.Common.{◌≡◌, ◌∙◌, List, ap, arith, get_or, length, ℕ}
 use Rattle.std.proofs.lemmas.Slice.Zip.{AllZip-long}
-use Rattle.object_groups.specs.Objects.{names_in, objects_in, ObjectsOf}
+use Rattle.object_groups.specs.claims.Objects.{names_in, objects_in}
+use Rattle.object_groups.specs.Objects.{ObjectsOf}
 use Rattle.object_reader.specs.declared.block.BlockKind.TheVariants.{Service}
-use Rattle.object_services.specs.Hosts.{AreHosts}
+use Rattle.object_services.specs.claims.Hosts.{AreHosts}
 use Rattle.object_settings.proofs.ObjectLemmas.{block-hosts, named-at, objects-all, objects-more, objects-none, service-asked}
 use Rattle.object_values.specs.declared.options.OptionKind.TheVariants as lists
 use Rattle.object_settings.proofs.objects.push_services.Goals as goal

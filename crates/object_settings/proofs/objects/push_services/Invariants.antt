@@ -1,6 +1,6 @@
 use Rattle.std.specs.List.{flat_map, range_with_len}
 use Rattle.object_settings.specs.Own.{AddsObjects, AreRead, options_of}
-use Rattle.object_settings.specs.Settings.{block_origins}
+use Rattle.object_settings.specs.claims.Settings.{block_origins}
 use Rattle.object_values.specs.declared.options.OptionKind.TheVariants as lists
 use Rattle.object_settings.proofs.objects.push_services.Given as goal
 

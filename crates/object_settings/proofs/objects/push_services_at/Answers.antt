@@ -1,6 +1,6 @@
 use Rattle.std.proofs.Common.{arith}
 use Rattle.std.proofs.lemmas.Slice.Zip.{AllZip-long}
-use Rattle.object_groups.specs.Objects.{objects_in}
+use Rattle.object_groups.specs.claims.Objects.{objects_in}
 use Rattle.object_reader.specs.declared.block.BlockKind.TheVariants.{Host}
 use Rattle.object_settings.specs.Own.{IsOwnOfHost}
 use Rattle.object_settings.proofs.ObjectLemmas.{block-objects}

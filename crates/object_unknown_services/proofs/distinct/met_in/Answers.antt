@@ -1,5 +1,5 @@
 use Rattle.std.proofs.Common.{◌≡◌, List, ap, arith, length, subst, ℕ}
-use Rattle.object_reached.specs.Roles.{directives_of}
+use Rattle.object_reached.specs.claims.Roles.{directives_of}
 use Rattle.object_unknown_services.specs.Distinct.{IsMet}
 use Rattle.object_unknown_services.proofs.DistinctLemmas.{descriptions-none, found-none, lists-none}
 use Rattle.object_unknown_services.proofs.distinct.met_in.Goals as goal

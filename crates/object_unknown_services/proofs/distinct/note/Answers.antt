@@ -6,7 +6,7 @@ use Rattle.std.specs.Prelude.{Contains, IfSome}
 use Rattle.lemmas.proofs.Elements.{Contains-here}
 use Rattle.object_reached.specs.Alike.{AreListsAlike, HaveLists, places_eq}
 use Rattle.object_reached.specs.Listed.{ServiceListingOf}
-use Rattle.object_reached.specs.Roles.{directives_of}
+use Rattle.object_reached.specs.claims.Roles.{directives_of}
 use Rattle.object_unknown_services.specs.Distinct.{AreDistinct, IsDistinct}
 use Rattle.object_unknown_services.proofs.DistinctLemmas.{ByDescriptions, ByLists, descriptions-more, descriptions-stay, distinct-more, distinct-past, distinct-same, found-at, is-earlier, is-own, lists-more}
 use Rattle.object_unknown_services.proofs.distinct.note.Goals as goal

@@ -1,5 +1,5 @@
 use Rattle.std.proofs.Common.{take}
-use Rattle.object_groups.specs.Objects.{names_in}
+use Rattle.object_groups.specs.claims.Objects.{names_in}
 use Rattle.object_reader.specs.declared.block.BlockKind.TheVariants.{Service}
 use Rattle.object_unknown_services.specs.Keys.{AreByKey, NamesFirst}
 use Rattle.object_unknown_services.proofs.keys.described.Given as goal

@@ -1,4 +1,4 @@
-use Rattle.object_groups.specs.Objects.{names_in}
+use Rattle.object_groups.specs.claims.Objects.{names_in}
 use Rattle.object_reader.specs.declared.block.BlockKind.TheVariants.{Service}
 use Rattle.object_unknown_services.specs.Keys.{AreByKey, GivesBelow}
 use Rattle.object_unknown_services.proofs.keys.givers.Given as goal

@@ -1,6 +1,8 @@
 use Rattle.std.proofs.Common.{◌≡◌, ◌<◌, ◌∙◌, List, ap, arith, length, refl, ℕ}
-use Rattle.object_groups.specs.Groups.{GroupsOf, object_kind}
-use Rattle.object_groups.specs.Objects.{names_in, ObjectsOf}
+use Rattle.object_groups.specs.claims.Groups.{object_kind}
+use Rattle.object_groups.specs.Groups.{GroupsOf}
+use Rattle.object_groups.specs.claims.Objects.{names_in}
+use Rattle.object_groups.specs.Objects.{ObjectsOf}
 use Rattle.object_reader.specs.declared.block.BlockKind.TheVariants.{Host, Service}
 use Rattle.object_unknown_services.proofs.UnknownLemmas.{keys-begin, keys-end, keys-more, stamps-none}
 use Rattle.object_unknown_services.proofs.unknown.first_in.Goals as goal

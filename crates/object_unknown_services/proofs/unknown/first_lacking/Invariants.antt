@@ -1,5 +1,5 @@
 use Rattle.std.proofs.Common.{◌≡◌, take, true}
-use Rattle.object_groups.specs.First.{IsFirst}
+use Rattle.object_groups.specs.claims.First.{IsFirst}
 use Rattle.object_unknown_services.specs.Unknown.{is_before, LacksAmong}
 use Rattle.object_unknown_services.proofs.unknown.first_lacking.Given as goal
 

@@ -1,5 +1,5 @@
 use Rattle.std.proofs.Common.{◌≡◌, ◌∙◌, [], List, Option, get_or, refl, subst, take_all, true, ℕ}
-use Rattle.object_groups.specs.First.{IsFirst}
+use Rattle.object_groups.specs.claims.First.{IsFirst}
 use Rattle.object_unknown_services.specs.Unknown.{is_before, LacksAmong, LacksIn}
 use Rattle.object_unknown_services.proofs.UnknownLemmas.{lists-more, lists-none}
 use Rattle.object_unknown_services.proofs.unknown.first_listed.Goals as goal

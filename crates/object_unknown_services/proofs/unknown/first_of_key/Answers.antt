@@ -1,7 +1,7 @@
 use Rattle.std.proofs.Common.{[], ◌≡◌, ◌+◌, ◌∙◌, List, ap, eqb-true, get_or, length, subst, sym, true, ◌<◌, ℕ}
 use Rattle.std.proofs.lemmas.Result.{IfOk-weaker}
 use Rattle.std.specs.Prelude.{All}
-use Rattle.object_groups.specs.First.{IsFirst}
+use Rattle.object_groups.specs.claims.First.{IsFirst}
 use Rattle.object_reader.specs.declared.block.Block.{Block}
 use Rattle.object_unknown_services.specs.Stamps.{IsHostOf, Stamped}
 use Rattle.object_unknown_services.specs.Unknown.{is_before, LacksIn}

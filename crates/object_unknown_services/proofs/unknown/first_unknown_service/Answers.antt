@@ -1,7 +1,7 @@
 use Rattle.std.proofs.Common.{List, subst}
-use Rattle.object_groups.specs.First.{IsFirst}
+use Rattle.object_groups.specs.claims.First.{IsFirst}
 use Rattle.object_reader.specs.declared.block.Block.{Block}
-use Rattle.object_unknown_services.specs.Unknown.{HasUnknownService}
+use Rattle.object_unknown_services.specs.claims.Unknown.{HasUnknownService}
 use Rattle.object_unknown_services.proofs.UnknownLemmas.{of-roles}
 use Rattle.object_unknown_services.proofs.unknown.first_unknown_service.Goals as goal
 

@@ -1,5 +1,5 @@
 use Rattle.std.proofs.Common.{◌∙◌, ap}
-use Rattle.object_values.specs.DayRules.{part_in, year_in}
+use Rattle.object_values.specs.claims.DayRules.{part_in, year_in}
 use Rattle.object_values.proofs.DayRuleLemmas.{date-parts}
 use Rattle.object_values.proofs.day_rules.date_in.Goals as goal
 

@@ -3,9 +3,9 @@ use Rattle.std.specs.List.{list_any}
 use Rattle.std.specs.Str.{bytes_eq}
 use Rattle.std.proofs.lemmas.Iterator.Search.{all_from_yields_List}
 use Rattle.std.proofs.lemmas.Iterator.Splits.{YieldsList-from_slice_split}
-use Rattle.object_reader.specs.Blanks.{is_blank}
-use Rattle.object_values.specs.Options.{criteria_words}
-use Rattle.object_values.specs.Values.{is_comma}
+use Rattle.object_reader.specs.claims.Blanks.{is_blank}
+use Rattle.object_values.specs.claims.Options.{criteria_words}
+use Rattle.object_values.specs.claims.Values.{is_comma}
 use Rattle.object_values.proofs.options.are_states.Goals as goal
 
 pub returns : goal.returns

@@ -2,8 +2,8 @@ use Rattle.std.proofs.Common.{◌||◌, rules, tests}
 use Rattle.std.specs.Str.{bytes_eq}
 use Rattle.std.proofs.lemmas.Iterator.Search.{any_from_yields_List}
 use Rattle.std.proofs.lemmas.Iterator.Splits.{YieldsList-from_slice_split}
-use Rattle.object_reader.specs.Blanks.{is_blank}
-use Rattle.object_values.specs.Values.{is_comma}
+use Rattle.object_reader.specs.claims.Blanks.{is_blank}
+use Rattle.object_values.specs.claims.Values.{is_comma}
 use Rattle.object_values.proofs.options.gives.Goals as goal
 
 pub returns : goal.returns

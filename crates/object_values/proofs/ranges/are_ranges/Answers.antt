@@ -2,8 +2,8 @@ use Rattle.std.proofs.Common.{rules, tests}
 use Rattle.std.specs.Prelude.{is_some}
 use Rattle.std.proofs.lemmas.Iterator.Search.{all_from_yields_List}
 use Rattle.std.proofs.lemmas.Iterator.Splits.{YieldsList-from_slice_split}
-use Rattle.object_values.specs.Ranges.{range_in}
-use Rattle.object_values.specs.Values.{is_comma}
+use Rattle.object_values.specs.claims.Ranges.{range_in}
+use Rattle.object_values.specs.claims.Values.{is_comma}
 use Rattle.object_values.proofs.ranges.are_ranges.Goals as goal
 
 pub returns : goal.returns

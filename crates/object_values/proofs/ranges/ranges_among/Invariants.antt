@@ -1,5 +1,5 @@
 use Rattle.std.proofs.Common.{◌≡◌, ◌++◌, length}
-use Rattle.object_values.specs.Ranges.{ranges_among}
+use Rattle.object_values.specs.claims.Ranges.{ranges_among}
 use Rattle.object_values.proofs.ranges.ranges_among.Given as goal
 
 -- The ranges so far, and those of the rest.

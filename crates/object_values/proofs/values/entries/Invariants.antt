@@ -1,5 +1,6 @@
 use Rattle.std.proofs.Common.{◌≡◌, ◌++◌, length}
-use Rattle.object_values.specs.Values.{entries, texts}
+use Rattle.object_values.specs.claims.Values.{entries}
+use Rattle.object_values.specs.Values.{texts}
 use Rattle.object_values.proofs.values.entries.Given as goal
 
 -- The entries so far, and those of the rest.

@@ -1,5 +1,5 @@
 use Rattle.std.proofs.Common.{subst, sym, rules}
-use Rattle.due_model.specs.Accepted.{IsAccepted}
+use Rattle.due_model.specs.claims.Accepted.{IsAccepted}
 use Rattle.object_warnings.proofs.AcceptedLemmas.{weekly-accepted}
 use Rattle.std.specs.Prelude.{All}
 use Rattle.due_model.specs.declared.config.Config.{Config}

@@ -1,5 +1,6 @@
 use Rattle.std.proofs.Common.{◌≡◌, map, take}
-use Rattle.object_values.specs.Values.{command_name, texts}
+use Rattle.object_values.specs.claims.Values.{command_name}
+use Rattle.object_values.specs.Values.{texts}
 use Rattle.object_warnings.proofs.unused.commands_of.Given as goal
 
 -- The names so far.

@@ -1,5 +1,5 @@
 use Rattle.std.proofs.Common.{ap₂, ℕ, ◌∙◌, rules, Some}
-use Rattle.due_model.specs.Periods.{in_period}
+use Rattle.due_model.specs.claims.Periods.{in_period}
 use Rattle.due_model.specs.declared.zone.Zone.{Zone}
 use Rattle.due_model.specs.declared.zone.Zone.TheVariants.{Utc}
 use Rattle.object_warnings.specs.Hours.{moment_of}

@@ -1,10 +1,10 @@
 use Rattle.std.proofs.Common.{◌≡◌, map, Some}
 use Rattle.std.specs.List.{range_with_len}
-use Rattle.due_model.specs.Periods.{in_period}
+use Rattle.due_model.specs.claims.Periods.{in_period}
 use Rattle.due_model.specs.declared.config.Config.{Config}
 use Rattle.due_model.specs.declared.zone.Zone.TheVariants.{Utc}
 use Rattle.object_warnings.specs.Hours.{moment_of}
-use Rattle.time_period.specs.Days.{AreCompiled}
+use Rattle.time_period.specs.claims.Days.{AreCompiled}
 use Rattle.object_warnings.proofs.week.flags_at.Given as goal
 
 -- The flags so far.

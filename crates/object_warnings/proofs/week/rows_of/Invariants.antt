@@ -1,7 +1,7 @@
 use Rattle.std.proofs.Common.{◌≡◌, ◌<◌, length, map}
 use Rattle.due_model.specs.declared.config.Config.{Config}
 use Rattle.object_warnings.specs.Hours.{rows_upto}
-use Rattle.time_period.specs.Days.{AreCompiled}
+use Rattle.time_period.specs.claims.Days.{AreCompiled}
 use Rattle.object_warnings.proofs.week.rows_of.Given as goal
 
 -- The rows so far.

@@ -1,6 +1,6 @@
 use Rattle.std.proofs.Common.{◌≡◌, All, length, subst, sym}
 use Rattle.std.proofs.lemmas.List.Elements.{All-weaker}
-use Rattle.due_model.specs.Accepted.{PeriodFits}
+use Rattle.due_model.specs.claims.Accepted.{PeriodFits}
 use Rattle.due_model.specs.declared.config.Period.{Period}
 use Rattle.object_warnings.proofs.week.weekly.Goals as goal
 

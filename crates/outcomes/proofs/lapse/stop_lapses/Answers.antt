@@ -1,7 +1,7 @@
 use Rattle.std.proofs.Common.{Bool, ◌&&◌, ◌||◌, ◌==◌, is_some, not, ap, ◌∙◌}
-use Rattle.due_model.specs.Histories.{is_by_switch}
-use Rattle.due_model.specs.Periods.{in_period}
-use Rattle.due_model.specs.Rules.{is_problem, is_recovery}
+use Rattle.due_model.specs.claims.Histories.{is_by_switch}
+use Rattle.due_model.specs.claims.Periods.{in_period}
+use Rattle.due_model.specs.claims.Rules.{is_problem, is_recovery}
 use Rattle.outcomes.proofs.lapse.stop_lapses.Goals as goal
 
 pub returns : goal.returns

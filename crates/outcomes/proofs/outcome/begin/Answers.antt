@@ -1,5 +1,5 @@
 use Rattle.std.proofs.Common.{ap, sym, ◌∙◌, arith}
-use Rattle.problem_count.specs.Book.{BookValues}
+use Rattle.problem_count.specs.claims.Book.{BookValues}
 use Rattle.outcomes.proofs.OutcomeLemmas.{removal_state}
 use Rattle.outcomes.proofs.outcome.begin.Goals as goal
 

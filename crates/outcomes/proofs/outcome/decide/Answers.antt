@@ -1,6 +1,6 @@
 use Rattle.std.proofs.Common.{◌∙◌, Bool, true, ap, arith, refl, sym}
 use Rattle.due_model.specs.declared.rules.ObjectStatus.{ObjectStatus}
-use Rattle.due_model.specs.Readings.{hard_after, is_problem_state}
+use Rattle.due_model.specs.claims.Readings.{hard_after, is_problem_state}
 use Rattle.outcomes.specs.Found.{attempt_by, tried, view_by}
 use Rattle.outcomes.specs.Outcome.{heard_of}
 use Rattle.problem_count.specs.Fits.{outcome_at}

@@ -1,6 +1,6 @@
 use Rattle.std.proofs.Common.{is_some, sym, ◌∙◌}
 use Rattle.std.proofs.lemmas.Bool.{and_parts}
-use Rattle.due_model.specs.Acknowledgements.{is_removal_of}
+use Rattle.due_model.specs.claims.Acknowledgements.{is_removal_of}
 use Rattle.outcomes.proofs.OutcomeLemmas.{takes_is}
 use Rattle.outcomes.proofs.outcome.is_taken_back.Goals as goal
 

@@ -1,9 +1,9 @@
 use Rattle.std.proofs.Common.{◌≡◌, ◌<◌, ◌∙◌, Option, Some, ap, get_or, length, subst, sym, ℕ}
 use Rattle.std.specs.Prelude.{IfSome}
 use Rattle.due_model.specs.declared.config.PeriodId.{PeriodId}
-use Rattle.due_model.specs.Periods.{next_in}
+use Rattle.due_model.specs.claims.Periods.{next_in}
 use Rattle.problem_count.specs.Fits.{IsNextMoment}
-use Rattle.time_period.specs.Days.{IsCompiled}
+use Rattle.time_period.specs.claims.Days.{IsCompiled}
 use Rattle.outcomes.proofs.OutcomeLemmas.{always_now, compiled_at}
 use Rattle.outcomes.proofs.settle.next_attempt.Goals as goal
 

@@ -1,5 +1,5 @@
 use Rattle.std.proofs.Common.{◌∙◌, List, sym, ap, ap₂, ℕ, max}
-use Rattle.notice_text.specs.Texts.{contact_text}
+use Rattle.notice_text.specs.claims.Texts.{contact_text}
 use Rattle.pretty_lines.specs.Columns.{characters}
 use Rattle.pretty_lines.proofs.ColumnLaws.{widest_more}
 use Rattle.pretty_lines.proofs.columns.widest_contact.Goals as goal

@@ -1,5 +1,5 @@
 use Rattle.std.proofs.Common.{◌≡◌}
-use Rattle.notice_text.specs.Texts.{contact_text}
+use Rattle.notice_text.specs.claims.Texts.{contact_text}
 use Rattle.pretty_lines.specs.Columns.{widest}
 use Rattle.pretty_lines.proofs.columns.widest_contact.Given as goal
 

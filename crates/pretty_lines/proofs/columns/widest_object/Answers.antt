@@ -1,5 +1,5 @@
 use Rattle.std.proofs.Common.{◌∙◌, sym, ap₂, ℕ, max}
-use Rattle.notice_text.specs.Texts.{object_text}
+use Rattle.notice_text.specs.claims.Texts.{object_text}
 use Rattle.pretty_lines.proofs.ColumnLaws.{widest_more}
 use Rattle.pretty_lines.proofs.columns.widest_object.Goals as goal
 

@@ -1,5 +1,5 @@
 use Rattle.std.proofs.Common.{◌≡◌}
-use Rattle.notice_text.specs.Texts.{object_text}
+use Rattle.notice_text.specs.claims.Texts.{object_text}
 use Rattle.pretty_lines.specs.Columns.{widest}
 use Rattle.pretty_lines.proofs.columns.widest_object.Given as goal
 

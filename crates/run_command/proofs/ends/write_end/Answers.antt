@@ -1,7 +1,7 @@
 use Rattle.std.proofs.Common.{◌++◌, subst}
-use Rattle.command_output.specs.RunLine.{closed_line}
-use Rattle.written.specs.Written.{Leaves, WritesFront}
-use Rattle.run_command.specs.Report.{channels_text}
+use Rattle.command_output.specs.claims.RunLine.{closed_line}
+use Rattle.written.specs.claims.Written.{Leaves, WritesFront}
+use Rattle.run_command.specs.claims.Report.{channels_text}
 use Rattle.run_command.proofs.ReportLaws.{closed_is, part_begun, part_cut, part_on}
 use Rattle.run_command.proofs.ends.write_end.Goals as goal
 

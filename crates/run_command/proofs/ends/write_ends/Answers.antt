@@ -1,5 +1,5 @@
 use Rattle.std.proofs.Common.{◌++◌, subst}
-use Rattle.written.specs.Written.{Leaves, WritesFront}
+use Rattle.written.specs.claims.Written.{Leaves, WritesFront}
 use Rattle.run_command.specs.Report.{end_lines}
 use Rattle.run_command.proofs.ReportLaws.{line_cut, line_written}
 use Rattle.run_command.proofs.ends.write_ends.Goals as goal

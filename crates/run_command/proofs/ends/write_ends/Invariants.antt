@@ -1,5 +1,5 @@
 use Rattle.std.proofs.Common.{◌++◌, flat_map, take}
-use Rattle.written.specs.Written.{Leaves}
+use Rattle.written.specs.claims.Written.{Leaves}
 use Rattle.run_command.specs.Report.{end_lines}
 use Rattle.run_command.proofs.ends.write_ends.Given as goal
 

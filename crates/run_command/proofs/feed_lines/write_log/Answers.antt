@@ -1,4 +1,4 @@
-use Rattle.command_output.specs.ReportLine.{suppression_line}
+use Rattle.command_output.specs.claims.ReportLine.{suppression_line}
 use Rattle.run_command.proofs.ReportLaws.{line_cut, line_written}
 use Rattle.run_command.proofs.feed_lines.write_log.Goals as goal
 

@@ -1,6 +1,6 @@
 use Rattle.std.proofs.Common.{◌++◌, flat_map, take}
-use Rattle.written.specs.Written.{Leaves}
-use Rattle.command_output.specs.ReportLine.{suppression_line}
+use Rattle.written.specs.claims.Written.{Leaves}
+use Rattle.command_output.specs.claims.ReportLine.{suppression_line}
 use Rattle.run_command.proofs.feed_lines.write_log.Given as goal
 
 abbrev pub invariant-loop-suppression : goal.invariant-loop-suppression

@@ -1,5 +1,5 @@
 use Rattle.event_feed.specs.declared.fault.RefusedLine.{RefusedLine}
-use Rattle.command_output.specs.ReportLine.{refused_line}
+use Rattle.command_output.specs.claims.ReportLine.{refused_line}
 use Rattle.run_command.proofs.ReportLaws.{line_cut, line_written}
 use Rattle.run_command.proofs.feed_lines.write_refused.Goals as goal
 

@@ -1,7 +1,7 @@
 use Rattle.std.proofs.Common.{arith, ◌++◌, OnOk, subst, sym}
-use Rattle.written.specs.Written.{Leaves, WritesFront}
+use Rattle.written.specs.claims.Written.{Leaves, WritesFront}
 use Rattle.written.specs.WrittenLaws.{front_none}
-use Rattle.run_command.specs.Report.{channels_text}
+use Rattle.run_command.specs.claims.Report.{channels_text}
 use Rattle.run_command.proofs.ReportLaws.{channels_several}
 use Rattle.run_command.proofs.lanes.write_channels.Goals as goal
 

@@ -3,10 +3,10 @@ use Rattle.std.proofs.lemmas.List.FromFn.{get_or-range_with_len, length-range_wi
 use Rattle.std.proofs.lemmas.Option.{slice_get_within}
 use Rattle.std.specs.List.{range_with_len}
 use Rattle.due_model.specs.declared.config.LaneId.{LaneId}
-use Rattle.command_output.specs.RunLine.{channel_line}
-use Rattle.written.specs.Written.{Leaves, WritesFront}
+use Rattle.command_output.specs.claims.RunLine.{channel_line}
+use Rattle.written.specs.claims.Written.{Leaves, WritesFront}
 use Rattle.written.specs.WrittenLaws.{front_less, front_none}
-use Rattle.run_command.specs.Report.{channel_lines}
+use Rattle.run_command.specs.claims.Report.{channel_lines}
 use Rattle.run_command.proofs.ReportLaws.{line_cut, line_written, lines_all, record_at}
 use Rattle.run_command.proofs.lanes.write_each_channel.Goals as goal
 

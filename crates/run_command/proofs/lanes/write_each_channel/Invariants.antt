@@ -1,7 +1,7 @@
 use Rattle.std.proofs.Common.{[], ◌++◌, flat_map, length, slice_index_or, take}
 use Rattle.std.specs.List.{range_with_len}
-use Rattle.written.specs.Written.{Leaves}
-use Rattle.command_output.specs.RunLine.{channel_line}
+use Rattle.written.specs.claims.Written.{Leaves}
+use Rattle.command_output.specs.claims.RunLine.{channel_line}
 use Rattle.run_command.proofs.lanes.write_each_channel.Given as goal
 
 abbrev pub invariant-loop-number : goal.invariant-loop-number

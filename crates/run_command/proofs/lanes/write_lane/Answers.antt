@@ -1,7 +1,7 @@
 use Rattle.std.proofs.Common.{◌++◌, subst}
-use Rattle.command_output.specs.RunLine.{closed_line, undelivered_line}
-use Rattle.written.specs.Written.{Leaves, WritesFront}
-use Rattle.run_command.specs.Report.{channels_text, letters_text, taken_text}
+use Rattle.command_output.specs.claims.RunLine.{closed_line, undelivered_line}
+use Rattle.written.specs.claims.Written.{Leaves, WritesFront}
+use Rattle.run_command.specs.claims.Report.{channels_text, letters_text, taken_text}
 use Rattle.run_command.proofs.ReportLaws.{channels_cut, closed_cut, closed_is, lane_made, taken_cut, undelivered_cut, undelivered_is}
 use Rattle.run_command.proofs.lanes.write_lane.Goals as goal
 

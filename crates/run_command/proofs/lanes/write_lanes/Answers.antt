@@ -1,6 +1,6 @@
 use Rattle.std.proofs.Common.{◌++◌, subst}
-use Rattle.written.specs.Written.{Leaves, WritesFront}
-use Rattle.run_command.specs.Report.{lane_lines}
+use Rattle.written.specs.claims.Written.{Leaves, WritesFront}
+use Rattle.run_command.specs.claims.Report.{lane_lines}
 use Rattle.run_command.proofs.ReportLaws.{line_cut, line_written}
 use Rattle.run_command.proofs.lanes.write_lanes.Goals as goal
 

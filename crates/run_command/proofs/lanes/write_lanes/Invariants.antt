@@ -1,6 +1,6 @@
 use Rattle.std.proofs.Common.{◌++◌, flat_map, take}
-use Rattle.written.specs.Written.{Leaves}
-use Rattle.run_command.specs.Report.{lane_lines}
+use Rattle.written.specs.claims.Written.{Leaves}
+use Rattle.run_command.specs.claims.Report.{lane_lines}
 use Rattle.run_command.proofs.lanes.write_lanes.Given as goal
 
 abbrev pub invariant-loop-lane : goal.invariant-loop-lane

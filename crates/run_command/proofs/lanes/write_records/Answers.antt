@@ -2,9 +2,9 @@ use Rattle.std.proofs.Common.{rules, ◌≡◌, ◌++◌, [], List, Some, ap₂,
 use Rattle.std.proofs.lemmas.Option.{slice_get_within}
 use Rattle.due_model.specs.declared.config.LaneId.{LaneId}
 use Rattle.due_model.specs.declared.notice.Notice.{Notice}
-use Rattle.command_output.specs.RunLine.{taken_line}
-use Rattle.written.specs.Written.{Leaves, WritesFront}
-use Rattle.run_command.specs.Report.{letters_text}
+use Rattle.command_output.specs.claims.RunLine.{taken_line}
+use Rattle.written.specs.claims.Written.{Leaves, WritesFront}
+use Rattle.run_command.specs.claims.Report.{letters_text}
 use Rattle.run_command.proofs.ReportLaws.{line_cut, line_written, record_at}
 use Rattle.run_command.proofs.lanes.write_records.Goals as goal
 

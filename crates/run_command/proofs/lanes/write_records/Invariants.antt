@@ -1,7 +1,7 @@
 use Rattle.std.proofs.Common.{◌++◌, flat_map, take}
-use Rattle.written.specs.Written.{Leaves}
-use Rattle.command_output.specs.RunLine.{taken_line}
-use Rattle.run_command.specs.Report.{letters_text}
+use Rattle.written.specs.claims.Written.{Leaves}
+use Rattle.command_output.specs.claims.RunLine.{taken_line}
+use Rattle.run_command.specs.claims.Report.{letters_text}
 use Rattle.run_command.proofs.lanes.write_records.Given as goal
 
 abbrev pub invariant-loop-number : goal.invariant-loop-number

@@ -1,4 +1,4 @@
-use Rattle.command_output.specs.RunLine.{taken_line}
+use Rattle.command_output.specs.claims.RunLine.{taken_line}
 use Rattle.run_command.proofs.ReportLaws.{line_cut, line_written}
 use Rattle.run_command.proofs.lanes.write_taken.Goals as goal
 

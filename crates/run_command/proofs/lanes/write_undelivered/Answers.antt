@@ -1,4 +1,4 @@
-use Rattle.command_output.specs.RunLine.{undelivered_line}
+use Rattle.command_output.specs.claims.RunLine.{undelivered_line}
 use Rattle.run_command.proofs.ReportLaws.{line_cut, line_written}
 use Rattle.run_command.proofs.lanes.write_undelivered.Goals as goal
 

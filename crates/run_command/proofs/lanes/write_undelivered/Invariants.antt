@@ -1,6 +1,6 @@
 use Rattle.std.proofs.Common.{◌++◌, flat_map, take}
-use Rattle.written.specs.Written.{Leaves}
-use Rattle.command_output.specs.RunLine.{undelivered_line}
+use Rattle.written.specs.claims.Written.{Leaves}
+use Rattle.command_output.specs.claims.RunLine.{undelivered_line}
 use Rattle.run_command.proofs.lanes.write_undelivered.Given as goal
 
 abbrev pub invariant-loop-notice : goal.invariant-loop-notice

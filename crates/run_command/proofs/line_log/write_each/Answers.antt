@@ -1,4 +1,4 @@
-use Rattle.command_output.specs.ReportLine.{suppression_line}
+use Rattle.command_output.specs.claims.ReportLine.{suppression_line}
 use Rattle.run_command.proofs.ReportLaws.{line_written}
 use Rattle.run_command.proofs.line_log.write_each.Goals as goal
 

@@ -1,5 +1,5 @@
 use Rattle.std.proofs.Common.{◌++◌}
-use Rattle.command_output.specs.ReportLine.{suppression_line}
+use Rattle.command_output.specs.claims.ReportLine.{suppression_line}
 use Rattle.run_command.proofs.LoggedLaws.{made_more}
 use Rattle.run_command.proofs.line_log.write_line.Goals as goal
 

@@ -1,7 +1,7 @@
 use Rattle.std.proofs.Common.{◌≡◌, List, OnOk, refl, subst}
-use Rattle.engine.specs.Feed.{ahead_in}
-use Rattle.engine.specs.Lanes.{AreTold, LaneParts, channels_on, count_of}
-use Rattle.written.specs.Written.{Writes, WritesFront}
+use Rattle.engine.specs.claims.Feed.{ahead_in}
+use Rattle.engine.specs.claims.Lanes.{AreTold, LaneParts, channels_on, count_of}
+use Rattle.written.specs.claims.Written.{Writes, WritesFront}
 use Rattle.run_command.specs.Report.{IsToldRun, ends_text}
 use Rattle.run_command.proofs.LoggedLaws.{if_cut, if_ended}
 use Rattle.run_command.proofs.logged.run_logged.Goals as goal

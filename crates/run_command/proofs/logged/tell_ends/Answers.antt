@@ -1,5 +1,5 @@
 use Rattle.std.proofs.Common.{◌++◌, List, subst}
-use Rattle.written.specs.Written.{WritesFront}
+use Rattle.written.specs.claims.Written.{WritesFront}
 use Rattle.run_command.specs.Report.{ends_text}
 use Rattle.run_command.proofs.LoggedLaws.{made_cut, made_flushed}
 use Rattle.run_command.proofs.logged.tell_ends.Goals as goal

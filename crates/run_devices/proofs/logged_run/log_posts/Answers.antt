@@ -1,7 +1,7 @@
 use Rattle.std.proofs.Common.{◌≤◌, is_none, map, refl, subst, sym}
 use Rattle.std.proofs.lemmas.Result.{IfOk-at_ok}
 use Rattle.std.specs.Arc.{arc_value}
-use Rattle.engine.specs.Lanes.{count_of}
+use Rattle.engine.specs.claims.Lanes.{count_of}
 use Rattle.run_devices.proofs.LoggedLaws.{logged_posted}
 use Rattle.run_devices.proofs.PostLaws.{same_posted}
 use Rattle.run_devices.proofs.logged_run.log_posts.Goals as goal

@@ -1,8 +1,8 @@
 use Rattle.std.proofs.Common.{rules, ◌≤◌, is_none, map, refl, sym, subst}
 use Rattle.std.proofs.lemmas.Result.{IfOk-at_ok}
 use Rattle.channel_words.specs.Lanes.{channels_for}
-use Rattle.engine.specs.Lanes.{count_of}
-use Rattle.run_command.specs.Report.{WritesReport}
+use Rattle.engine.specs.claims.Lanes.{count_of}
+use Rattle.run_command.specs.claims.Report.{WritesReport}
 use Rattle.run_devices.proofs.PostLaws.{report_posted, same_posted}
 use Rattle.run_devices.proofs.run.run_posts.Goals as goal
 

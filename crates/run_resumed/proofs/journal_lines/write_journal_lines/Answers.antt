@@ -1,5 +1,5 @@
 use Rattle.std.proofs.Common.{ℕ, List, subst}
-use Rattle.written.specs.Written.{Writes}
+use Rattle.written.specs.claims.Written.{Writes}
 use Rattle.run_resumed.proofs.journal_lines.write_journal_lines.Goals as goal
 
 pub returns : goal.returns

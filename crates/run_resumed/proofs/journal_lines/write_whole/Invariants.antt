@@ -1,5 +1,5 @@
 use Rattle.std.proofs.Common.{length}
-use Rattle.written.specs.Written.{Leaves}
+use Rattle.written.specs.claims.Written.{Leaves}
 use Rattle.run_resumed.proofs.journal_lines.write_whole.Given as goal
 
 abbrev pub invariant-loop-rest : goal.invariant-loop-rest

@@ -1,8 +1,8 @@
 use Rattle.std.proofs.Common.{List, subst, sym}
 use Rattle.object_faults.specs.declared.load_fault.LoadFault.TheVariants as load
-use Rattle.object_inheritance.specs.Faults.{AreFree}
+use Rattle.object_inheritance.specs.claims.Faults.{AreFree}
 use Rattle.object_reader.specs.declared.block.Block.{Block}
-use Rattle.object_resolve.specs.Resolve.{IsRefusal}
+use Rattle.object_resolve.specs.claims.Resolve.{IsRefusal}
 use Rattle.site_check.specs.Faults.{AreTold}
 use Rattle.site_check.proofs.FaultLemmas.{first-of, templates-told}
 use Rattle.site_check.proofs.all_faults.told_of.Goals as goal

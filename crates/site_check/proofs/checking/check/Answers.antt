@@ -1,7 +1,7 @@
 use Rattle.std.proofs.Common.{◌≡◌, ◌⊎◌, List, false, refl, rules, subst, ℕ}
 use Rattle.object_faults.specs.declared.load_fault.LoadFault.{LoadFault}
 use Rattle.object_faults.specs.declared.load_fault.LoadFault.TheVariants as load
-use Rattle.object_resolve.specs.Text.{IsTextFault}
+use Rattle.object_resolve.specs.claims.Text.{IsTextFault}
 use Rattle.site_check.specs.Checked.{AreRefused}
 use Rattle.site_check.specs.Warnings.{IsOfText}
 use Rattle.site_check.proofs.CheckedLemmas.{block-checked, large-checked, line-checked, memory-lies, sound-checked, text-fault}

@@ -1,6 +1,6 @@
 use Rattle.std.proofs.Common.{Bool, ap, subst, sym}
 use Rattle.due_model.specs.declared.config.Choices.{Choices}
-use Rattle.object_resolve.specs.Text.{IsTextOf}
+use Rattle.object_resolve.specs.claims.Text.{IsTextOf}
 use Rattle.site_check.proofs.checking.loaded.Goals as goal
 
 pub returns-clause-only : goal.returns-clause-only

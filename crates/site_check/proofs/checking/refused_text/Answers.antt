@@ -1,7 +1,7 @@
 use Rattle.std.proofs.Common.{List, Ok, refl, rules, subst, ℕ}
 use Rattle.object_faults.specs.declared.load_fault.LoadFault.TheVariants as load
 use Rattle.object_reader.specs.declared.block.Block.{Block}
-use Rattle.object_resolve.specs.Resolve.{IsRefusal}
+use Rattle.object_resolve.specs.claims.Resolve.{IsRefusal}
 use Rattle.site_check.specs.Checked.{AreRefused}
 use Rattle.site_check.specs.Faults.{AreTold}
 use Rattle.site_check.specs.Warnings.{IsOfFaulty}

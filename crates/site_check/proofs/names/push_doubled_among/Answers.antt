@@ -1,4 +1,4 @@
-use Rattle.object_names.specs.Named.{block_kind}
+use Rattle.object_names.specs.claims.Named.{block_kind}
 use Rattle.object_names.specs.declared.named.NamedKind.{NamedKind}
 use Rattle.object_groups.specs.Objects.{ObjectsOf}
 use Rattle.site_check.specs.Faults.{doubled_in}

@@ -1,5 +1,5 @@
 use Rattle.object_groups.specs.Names.{is_doubled}
-use Rattle.object_groups.specs.Objects.{names_in}
+use Rattle.object_groups.specs.claims.Objects.{names_in}
 use Rattle.site_check.specs.Faults.{doubled_at}
 use Rattle.site_check.proofs.ListLemmas.{numbers-more}
 use Rattle.std.proofs.Common.{◌∙◌, List, ap, ℕ}

@@ -1,7 +1,7 @@
 use Rattle.std.proofs.Common.{◌≡◌, ◌++◌, filter, map}
 use Rattle.std.specs.List.{range_with_len}
 use Rattle.object_groups.specs.Names.{is_doubled}
-use Rattle.object_groups.specs.Objects.{names_in}
+use Rattle.object_groups.specs.claims.Objects.{names_in}
 use Rattle.site_check.specs.Faults.{doubled_at}
 use Rattle.site_check.proofs.names.push_doubled_in.Given as goal
 

@@ -1,5 +1,5 @@
 use Rattle.std.proofs.Common.{◌≡◌, ◌++◌, filter, take}
-use Rattle.due_model.specs.Escalations.{matches}
+use Rattle.due_model.specs.claims.Escalations.{matches}
 use Rattle.slow_rules.specs.Escalated.{has_some, named_by}
 use Rattle.slow_rules.proofs.escalations.name_matching.Given as goal
 

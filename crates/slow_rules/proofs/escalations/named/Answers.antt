@@ -1,5 +1,5 @@
 use Rattle.std.proofs.Common.{◌++◌, ◌∙◌, ap, sym}
-use Rattle.due_model.specs.Escalations.{matching}
+use Rattle.due_model.specs.claims.Escalations.{matching}
 use Rattle.slow_rules.specs.Escalated.{named_by}
 use Rattle.slow_rules.proofs.EscalatedLemmas.{reaches_named}
 use Rattle.slow_rules.proofs.escalations.named.Goals as goal

@@ -1,5 +1,5 @@
 use Rattle.std.proofs.Common.{◌≡◌, reverse, take, All, IfSome}
-use Rattle.due_model.specs.Histories.{last_notice}
+use Rattle.due_model.specs.claims.Histories.{last_notice}
 use Rattle.slow_rules.specs.Histories.{IsInRange, IsLastInRange}
 use Rattle.slow_rules.proofs.histories.last_notice.Given as goal
 

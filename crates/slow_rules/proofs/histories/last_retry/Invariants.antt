@@ -1,5 +1,5 @@
 use Rattle.std.proofs.Common.{◌≡◌, reverse, take, IfSome}
-use Rattle.due_model.specs.Histories.{last_notice, ready}
+use Rattle.due_model.specs.claims.Histories.{last_notice, ready}
 use Rattle.slow_rules.specs.Histories.{IsLastInRange}
 use Rattle.slow_rules.specs.Retries.{IsRetryInRange, retry_moment}
 use Rattle.slow_rules.proofs.histories.last_retry.Given as goal

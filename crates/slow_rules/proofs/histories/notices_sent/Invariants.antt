@@ -1,5 +1,5 @@
 use Rattle.std.proofs.Common.{◌≡◌, ◌≤◌, reverse, take}
-use Rattle.due_model.specs.Histories.{notices_sent}
+use Rattle.due_model.specs.claims.Histories.{notices_sent}
 use Rattle.slow_rules.proofs.histories.notices_sent.Given as goal
 
 abbrev pub invariant-loop-outcome : goal.invariant-loop-outcome

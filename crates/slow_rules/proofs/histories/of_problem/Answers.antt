@@ -1,8 +1,8 @@
 use Rattle.std.proofs.Common.{◌≡◌, ◌<◌, ◌&&◌, not, length, reverse, take, drop, get_or, ◌+◌, arith, subst, ap, sym, ◌∙◌}
 use Rattle.due_model.specs.declared.event.Event.{Event}
 use Rattle.due_model.specs.declared.event.EventKind.TheVariants.{Clock}
-use Rattle.due_model.specs.Readings.{hard, hard_after, is_problem_of, is_problem_state}
-use Rattle.due_model.specs.Histories.{of_problem}
+use Rattle.due_model.specs.claims.Readings.{hard, hard_after, is_problem_of, is_problem_state}
+use Rattle.due_model.specs.claims.Histories.{of_problem}
 use Rattle.lemmas.proofs.Lists.{past_more}
 use Rattle.slow_rules.proofs.ProblemLemmas.{problem_begins, problem_goes_on}
 use Rattle.slow_rules.proofs.histories.of_problem.Goals as goal

@@ -1,6 +1,6 @@
 use Rattle.std.proofs.Common.{◌≡◌, ◌≤◌, reverse, take, drop}
-use Rattle.due_model.specs.Readings.{hard}
-use Rattle.due_model.specs.Histories.{of_problem}
+use Rattle.due_model.specs.claims.Readings.{hard}
+use Rattle.due_model.specs.claims.Histories.{of_problem}
 use Rattle.slow_rules.proofs.histories.of_problem.Given as goal
 
 abbrev pub invariant-loop-index : goal.invariant-loop-index

@@ -1,5 +1,5 @@
 use Rattle.std.proofs.Common.{◌≡◌, reverse, take}
-use Rattle.due_model.specs.Histories.{told_letters}
+use Rattle.due_model.specs.claims.Histories.{told_letters}
 use Rattle.slow_rules.proofs.histories.told_letters.Given as goal
 
 abbrev pub invariant-loop-outcome : goal.invariant-loop-outcome

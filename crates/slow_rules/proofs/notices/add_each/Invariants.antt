@@ -1,5 +1,5 @@
 use Rattle.std.proofs.Common.{◌≡◌, ◌++◌, map, take, flat_map}
-use Rattle.due_model.specs.Due.{notice_to, refusal_of}
+use Rattle.due_model.specs.claims.Due.{notice_to, refusal_of}
 use Rattle.slow_rules.specs.Notices.{number_of_contact}
 use Rattle.slow_rules.proofs.notices.add_each.Given as goal
 

@@ -1,6 +1,6 @@
 use Rattle.std.proofs.Common.{◌∷◌, Bool, Option, reverse, ap, ◌∙◌}
 use Rattle.std.proofs.lemmas.Result.{IfOk-weaker}
-use Rattle.due_model.specs.Histories.{before, down_with_host, ended_by, ended_within, host_holds, last_notice}
+use Rattle.due_model.specs.claims.Histories.{before, down_with_host, ended_by, ended_within, host_holds, last_notice}
 use Rattle.due_model.specs.declared.rules.Last.{Last}
 use Rattle.slow_rules.proofs.outcomes.is_over.Goals as goal
 

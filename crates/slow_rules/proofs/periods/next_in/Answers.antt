@@ -1,5 +1,5 @@
 use Rattle.std.proofs.Common.{◌≡◌, Bool, true, false, List, sym, ap, ◌∙◌, arith}
-use Rattle.due_model.specs.Periods.{in_period}
+use Rattle.due_model.specs.claims.Periods.{in_period}
 use Rattle.slow_rules.specs.Rounds.{is_open}
 use Rattle.slow_rules.proofs.RoundLemmas.{open_at}
 use Rattle.slow_rules.proofs.WalkLemmas.{next_is, walk_ends, walk_finds, walk_goes_on}

@@ -1,4 +1,4 @@
-use Rattle.due_model.specs.Periods.{in_period}
+use Rattle.due_model.specs.claims.Periods.{in_period}
 use Rattle.slow_rules.proofs.WalkLemmas.{IsLeft}
 use Rattle.slow_rules.proofs.periods.next_in.Given as goal
 

@@ -1,9 +1,9 @@
 use Rattle.std.proofs.Common.{rules, ◌≡◌, true, false, ◌&&◌, ◌∙◌}
 use Rattle.std.specs.List.{list_any}
 use Rattle.day_rules.specs.Dates.{shown}
-use Rattle.due_model.specs.Days.{names_day}
-use Rattle.due_model.specs.Local.{weekday_at}
-use Rattle.due_model.specs.Periods.{in_range, weekly_ranges}
+use Rattle.due_model.specs.claims.Days.{names_day}
+use Rattle.due_model.specs.claims.Local.{weekday_at}
+use Rattle.due_model.specs.claims.Periods.{in_range, weekly_ranges}
 use Rattle.slow_rules.specs.Rounds.{is_first}
 use Rattle.slow_rules.proofs.RangeLemmas.{in_deciding, in_weekly}
 use Rattle.slow_rules.proofs.ranges.own_ranges_hold.Goals as goal

@@ -2,7 +2,7 @@ use Rattle.std.proofs.Common.{◌<◌, length, get_or, ap, ap₂, sym, ◌∙◌
 use Rattle.due_model.specs.declared.event.Event.{Event}
 use Rattle.due_model.specs.declared.event.EventKind.TheVariants.{Clock}
 use Rattle.due_model.specs.Acknowledgements.{ack_after}
-use Rattle.due_model.specs.Readings.{hard, hard_after}
+use Rattle.due_model.specs.claims.Readings.{hard, hard_after}
 use Rattle.lemmas.proofs.Lists.{past_more}
 use Rattle.slow_rules.proofs.SlowLemmas.{acknowledgement_more}
 use Rattle.slow_rules.proofs.readings.acknowledgement.Goals as goal

@@ -1,6 +1,6 @@
 use Rattle.std.proofs.Common.{◌≡◌, take, reverse}
-use Rattle.due_model.specs.Acknowledgements.{acknowledgement}
-use Rattle.due_model.specs.Readings.{hard}
+use Rattle.due_model.specs.claims.Acknowledgements.{acknowledgement}
+use Rattle.due_model.specs.claims.Readings.{hard}
 use Rattle.slow_rules.proofs.readings.acknowledgement.Given as goal
 
 abbrev pub invariant-loop-event : goal.invariant-loop-event

@@ -1,6 +1,6 @@
 use Rattle.std.proofs.Common.{◌≡◌, take, reverse}
-use Rattle.due_model.specs.Changes.{delayed}
-use Rattle.due_model.specs.Readings.{moment, hard}
+use Rattle.due_model.specs.claims.Changes.{delayed}
+use Rattle.due_model.specs.claims.Readings.{moment, hard}
 use Rattle.slow_rules.proofs.readings.delayed.Given as goal
 
 abbrev pub invariant-loop-event : goal.invariant-loop-event

@@ -1,5 +1,5 @@
 use Rattle.std.proofs.Common.{◌≡◌, ◌≤◌, take, reverse}
-use Rattle.due_model.specs.Readings.{depth}
+use Rattle.due_model.specs.claims.Readings.{depth}
 use Rattle.slow_rules.proofs.readings.depth.Given as goal
 
 abbrev pub invariant-loop-event : goal.invariant-loop-event

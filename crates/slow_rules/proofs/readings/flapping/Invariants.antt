@@ -1,5 +1,5 @@
 use Rattle.std.proofs.Common.{◌≡◌, take, reverse}
-use Rattle.due_model.specs.Readings.{flapping}
+use Rattle.due_model.specs.claims.Readings.{flapping}
 use Rattle.slow_rules.proofs.readings.flapping.Given as goal
 
 abbrev pub invariant-loop-event : goal.invariant-loop-event

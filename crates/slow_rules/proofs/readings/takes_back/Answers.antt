@@ -1,5 +1,5 @@
 use Rattle.std.proofs.Common.{Bool, ◌&&◌, is_some, reverse, ap, sym, ◌∙◌}
-use Rattle.due_model.specs.Acknowledgements.{acked}
+use Rattle.due_model.specs.claims.Acknowledgements.{acked}
 use Rattle.lemmas.proofs.Acknowledgements.{acked_is}
 use Rattle.slow_rules.proofs.readings.takes_back.Goals as goal
 

@@ -1,7 +1,7 @@
 use Rattle.std.proofs.Common.{◌∷◌, [], ◌++◌, cond, map, filter, sym, ap, ◌∙◌, append-nil}
 use Rattle.std.proofs.lemmas.List.{map-append}
 use Rattle.std.specs.List.{range_with_len}
-use Rattle.due_model.specs.Escalations.{has_contact}
+use Rattle.due_model.specs.claims.Escalations.{has_contact}
 use Rattle.slow_rules.specs.Notices.{number_of_contact}
 use Rattle.lemmas.proofs.Lists.{filter_range_more}
 use Rattle.slow_rules.proofs.receivers.contacts_with.Goals as goal

@@ -1,6 +1,6 @@
 use Rattle.std.proofs.Common.{◌≡◌, map, filter}
 use Rattle.std.specs.List.{range_with_len}
-use Rattle.due_model.specs.Escalations.{has_contact}
+use Rattle.due_model.specs.claims.Escalations.{has_contact}
 use Rattle.slow_rules.specs.Notices.{number_of_contact}
 use Rattle.slow_rules.proofs.receivers.contacts_with.Given as goal
 

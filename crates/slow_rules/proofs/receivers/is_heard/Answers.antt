@@ -1,7 +1,7 @@
 use Rattle.std.proofs.Common.{Bool, not, ◌||◌, ap, sym, ◌∙◌}
 use Rattle.std.proofs.lemmas.Result.{IfOk-weaker}
 use Rattle.std.specs.List.{list_any}
-use Rattle.due_model.specs.Receivers.{passes, receivers}
+use Rattle.due_model.specs.claims.Receivers.{passes, receivers}
 use Rattle.due_model.specs.declared.config.ContactId.{ContactId}
 use Rattle.slow_rules.proofs.SlowLemmas.{any_numbers}
 use Rattle.slow_rules.proofs.receivers.is_heard.Goals as goal

@@ -1,6 +1,6 @@
 use Rattle.std.proofs.Common.{Bool, ◌||◌, take, take_all, ap, sym, ◌∙◌}
 use Rattle.std.specs.List.{list_any}
-use Rattle.due_model.specs.Receivers.{passes}
+use Rattle.due_model.specs.claims.Receivers.{passes}
 use Rattle.due_model.specs.declared.config.ContactId.{ContactId}
 use Rattle.lemmas.proofs.Lists.{any_more}
 use Rattle.slow_rules.proofs.receivers.one_passes.Goals as goal

@@ -1,6 +1,6 @@
 use Rattle.std.proofs.Common.{◌≡◌, take}
 use Rattle.std.specs.List.{list_any}
-use Rattle.due_model.specs.Receivers.{passes}
+use Rattle.due_model.specs.claims.Receivers.{passes}
 use Rattle.slow_rules.proofs.receivers.one_passes.Given as goal
 
 -- Whether the filters of one so far pass.

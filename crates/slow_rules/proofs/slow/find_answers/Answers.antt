@@ -2,10 +2,10 @@ use Rattle.std.proofs.Common.{◌≡◌, ℕ, Option, ◌++◌, ◌+◌, ◌∷�
 use Rattle.std.proofs.lemmas.List.Elements.{All-same, All-nil, All-push}
 use Rattle.due_model.specs.declared.event.Event.{Event}
 use Rattle.due_model.specs.declared.event.EventKind.TheVariants.{Clock}
-use Rattle.due_model.specs.Due.{due_for, notices, suppressed_for, suppressions}
-use Rattle.due_model.specs.Histories.{ended, hist, is_of_problem_attempt, outcome, released, released_by}
-use Rattle.due_model.specs.Acknowledgements.{takes_back}
-use Rattle.due_model.specs.Readings.{moment}
+use Rattle.due_model.specs.claims.Due.{due_for, notices, suppressed_for, suppressions}
+use Rattle.due_model.specs.claims.Histories.{ended, hist, is_of_problem_attempt, outcome, released, released_by}
+use Rattle.due_model.specs.claims.Acknowledgements.{takes_back}
+use Rattle.due_model.specs.claims.Readings.{moment}
 use Rattle.lemmas.proofs.Lists.{past_all}
 use Rattle.slow_rules.specs.Histories.{IsInRange}
 use Rattle.slow_rules.proofs.SlowLemmas.{hist_more, due_more, over_more, released_more, suppressed_more}

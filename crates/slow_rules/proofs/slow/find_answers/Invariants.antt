@@ -1,6 +1,6 @@
 use Rattle.std.proofs.Common.{◌≡◌, reverse, take, All, vec_len}
-use Rattle.due_model.specs.Due.{due_for, suppressed_for}
-use Rattle.due_model.specs.Histories.{ended, hist, released}
+use Rattle.due_model.specs.claims.Due.{due_for, suppressed_for}
+use Rattle.due_model.specs.claims.Histories.{ended, hist, released}
 use Rattle.slow_rules.specs.Histories.{IsInRange}
 use Rattle.slow_rules.proofs.slow.find_answers.Given as goal
 

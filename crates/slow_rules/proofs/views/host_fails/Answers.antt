@@ -1,8 +1,8 @@
 use Rattle.std.proofs.Common.{◌∷◌, Bool, false, ◌&&◌, Option, None, Some, reverse, ap, sym, ◌∙◌}
 use Rattle.std.proofs.lemmas.Result.{IfOk-weaker}
 use Rattle.due_model.specs.declared.config.ObjectId.{ObjectId}
-use Rattle.due_model.specs.Dependencies.{dependency_fails}
-use Rattle.due_model.specs.Readings.{hard, moment}
+use Rattle.due_model.specs.claims.Dependencies.{dependency_fails}
+use Rattle.due_model.specs.claims.Readings.{hard, moment}
 use Rattle.slow_rules.proofs.views.host_fails.Goals as goal
 
 pub returns-in-None : goal.returns-in-None

@@ -1,6 +1,6 @@
 use Rattle.std.proofs.Common.{◌∷◌, Bool, false, ◌&&◌, Option, None, Some, reverse, ap, sym, ◌∙◌}
 use Rattle.due_model.specs.declared.config.ObjectId.{ObjectId}
-use Rattle.due_model.specs.Readings.{hard, is_problem_state}
+use Rattle.due_model.specs.claims.Readings.{hard, is_problem_state}
 use Rattle.slow_rules.proofs.views.host_holds.Goals as goal
 
 pub returns-in-None : goal.returns-in-None

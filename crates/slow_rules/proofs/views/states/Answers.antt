@@ -1,6 +1,6 @@
 use Rattle.std.proofs.Common.{◌∷◌, [], ◌++◌, ◌∙◌, ap₂, reverse, sym, arith}
 use Rattle.std.proofs.lemmas.List.FromFn.{map-range_with_len_more}
-use Rattle.due_model.specs.Readings.{hard}
+use Rattle.due_model.specs.claims.Readings.{hard}
 use Rattle.slow_rules.proofs.views.states.Goals as goal
 
 pub loop-number-preserved : goal.loop-number-preserved

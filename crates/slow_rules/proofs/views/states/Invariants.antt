@@ -1,6 +1,6 @@
 use Rattle.std.proofs.Common.{◌≡◌, ◌∷◌, map, reverse}
 use Rattle.std.specs.List.{range_with_len}
-use Rattle.due_model.specs.Readings.{hard}
+use Rattle.due_model.specs.claims.Readings.{hard}
 use Rattle.slow_rules.proofs.views.states.Given as goal
 
 abbrev pub invariant-loop-number : goal.invariant-loop-number

@@ -1,7 +1,7 @@
 use Rattle.std.proofs.Common.{Bool, ◌&&◌, ◌||◌, not, ap, ◌∙◌}
 use Rattle.due_model.specs.declared.state.State.{State}
-use Rattle.due_model.specs.Readings.{hard_after}
-use Rattle.due_model.specs.Rules.{same_state}
+use Rattle.due_model.specs.claims.Readings.{hard_after}
+use Rattle.due_model.specs.claims.Rules.{same_state}
 use Rattle.slow_rules.proofs.waits.ended_within.Goals as goal
 
 pub returns : goal.returns

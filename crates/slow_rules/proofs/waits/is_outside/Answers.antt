@@ -1,6 +1,6 @@
 use Rattle.std.proofs.Common.{Bool, ◌&&◌, not, ap, ◌∙◌}
-use Rattle.due_model.specs.Histories.{is_by_switch}
-use Rattle.due_model.specs.Rules.{is_problem}
+use Rattle.due_model.specs.claims.Histories.{is_by_switch}
+use Rattle.due_model.specs.claims.Rules.{is_problem}
 use Rattle.slow_rules.proofs.waits.is_outside.Goals as goal
 
 pub returns : goal.returns

@@ -1,5 +1,5 @@
 use Rattle.std.proofs.Common.{Bool, ◌&&◌, ◌||◌, not, ap, ◌∙◌}
-use Rattle.due_model.specs.Rules.{is_problem}
+use Rattle.due_model.specs.claims.Rules.{is_problem}
 use Rattle.slow_rules.proofs.waits.stop_lapses.Goals as goal
 
 pub returns : goal.returns

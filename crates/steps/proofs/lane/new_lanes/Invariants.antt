@@ -1,5 +1,5 @@
 use Rattle.std.proofs.Common.{◌≡◌, ◌++◌, drop, map}
-use Rattle.steps.specs.Lanes.{lane_state, new_lane}
+use Rattle.steps.specs.claims.Lanes.{lane_state, new_lane}
 use Rattle.steps.proofs.lane.new_lanes.Given as goal
 
 abbrev pub invariant-loop-channels : goal.invariant-loop-channels

@@ -1,5 +1,5 @@
 use Rattle.std.proofs.Common.{◌≡◌, ◌++◌, drop}
-use Rattle.steps.specs.Lanes.{about, join_records, lists_of}
+use Rattle.steps.specs.claims.Lanes.{about, join_records, lists_of}
 use Rattle.steps.proofs.line.about_in_records.Given as goal
 
 abbrev pub invariant-loop-taken : goal.invariant-loop-taken

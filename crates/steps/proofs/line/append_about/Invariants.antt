@@ -1,5 +1,5 @@
 use Rattle.std.proofs.Common.{◌≡◌, ◌++◌, drop}
-use Rattle.steps.specs.Lanes.{about}
+use Rattle.steps.specs.claims.Lanes.{about}
 use Rattle.steps.proofs.line.append_about.Given as goal
 
 abbrev pub invariant-loop-notice : goal.invariant-loop-notice

@@ -1,7 +1,7 @@
 use Rattle.std.proofs.Common.{◌-◌, ℕ, List, length, take, drop, ltb, ap, ◌∙◌}
 use Rattle.std.specs.List.{list_any}
 use Rattle.std.proofs.lemmas.List.{take_rest}
-use Rattle.text_lines.specs.Lines.{is_newline}
+use Rattle.text_lines.specs.claims.Lines.{is_newline}
 use Rattle.text_lines.proofs.Pieces.{position-any}
 use Rattle.text_lines.proofs.bytes.has_line.Goals as goal
 

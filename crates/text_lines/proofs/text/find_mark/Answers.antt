@@ -2,7 +2,7 @@ use Rattle.std.proofs.Common.{◌≡◌, ◌+◌, ◌<◌, ℕ, List, length, dr
 use Rattle.std.specs.List.{position_or_len}
 use Rattle.std.specs.Option.{option_copied}
 use Rattle.std.proofs.lemmas.List.{take_rest}
-use Rattle.text_lines.specs.Lines.{is_newline}
+use Rattle.text_lines.specs.claims.Lines.{is_newline}
 use Rattle.text_lines.proofs.Marks.{searched_on, found_mark, skipped_line}
 use Rattle.text_lines.proofs.Ranges.{newline-from}
 use Rattle.text_lines.proofs.text.find_mark.Goals as goal

@@ -2,7 +2,8 @@ use Rattle.std.proofs.Common.{◌≡◌, ℕ, ◌<◌, length}
 use Rattle.std.specs.Prelude.{slice_index_or}
 use Rattle.std.specs.Arc.{arc_value}
 use Rattle.due_model.specs.declared.config.Config.{Config}
-use Rattle.time_period.specs.Days.{IsCompiled, IsTable, never}
+use Rattle.time_period.specs.claims.Days.{IsCompiled, never}
+use Rattle.time_period.specs.Days.{IsTable}
 use Rattle.time_period.proofs.compile.all_of.Given as goal
 
 -- The periods so far.

@@ -1,9 +1,11 @@
 use Rattle.std.proofs.Common.{◌≡◌, ◌<◌, ◌∙◌, ℕ, List, All, ap, length, subst, sym, true}
 use Rattle.std.specs.Arc.{arc_value}
 use Rattle.std.proofs.lemmas.Result.{IfOk-weaker}
-use Rattle.time_period.specs.Days.{IsCompiled, worked_by}
+use Rattle.time_period.specs.claims.Days.{IsCompiled}
+use Rattle.time_period.specs.Days.{worked_by}
 use Rattle.time_period.specs.Needs.{AreClosedNeeds}
-use Rattle.time_period.specs.Steps.{is_plain, Own, own_at}
+use Rattle.time_period.specs.claims.Steps.{Own}
+use Rattle.time_period.specs.Steps.{is_plain, own_at}
 use Rattle.time_period.proofs.NeedsLemmas.{kept-at, needed-compiled, weekly-compiled}
 use Rattle.time_period.proofs.compile.one_of.Goals as goal
 

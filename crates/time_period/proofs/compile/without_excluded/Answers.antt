@@ -1,7 +1,7 @@
 use Rattle.std.proofs.Common.{◌≡◌, ◌+◌, ◌∙◌, List, ap, arith, get_or, subst, sym, ℕ}
 use Rattle.due_model.specs.declared.config.PeriodId.{PeriodId}
 use Rattle.due_model.specs.declared.config.Range.{Range}
-use Rattle.due_model.specs.Periods.{weekly_ranges}
+use Rattle.due_model.specs.claims.Periods.{weekly_ranges}
 use Rattle.time_period.specs.Days.{AreWorkedOut, IsDayOf, holds_without}
 use Rattle.time_period.proofs.DayLemmas.{on_weekday, worked_out_more}
 use Rattle.time_period.proofs.compile.without_excluded.Goals as goal

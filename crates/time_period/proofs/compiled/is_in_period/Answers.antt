@@ -1,7 +1,7 @@
 use Rattle.std.proofs.Common.{◌∙◌, Option, ap, arith, get_or, sym, ℕ}
 use Rattle.due_model.specs.declared.config.PeriodId.{PeriodId}
-use Rattle.due_model.specs.Local.{local}
-use Rattle.due_model.specs.Periods.{in_period}
+use Rattle.due_model.specs.claims.Local.{local}
+use Rattle.due_model.specs.claims.Periods.{in_period}
 use Rattle.time_period.proofs.DoneLemmas.{its_own, no-period}
 use Rattle.time_period.proofs.compiled.is_in_period.Goals as goal
 

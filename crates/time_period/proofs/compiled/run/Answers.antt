@@ -3,7 +3,8 @@ use Rattle.std.proofs.lemmas.List.{take_all}
 use Rattle.day_rules.specs.Dates.{shown}
 use Rattle.time_period.specs.Flags.{flag_at}
 use Rattle.time_period.specs.Needs.{picked}
-use Rattle.time_period.specs.Steps.{flags_after, IsSteady, Own}
+use Rattle.time_period.specs.claims.Steps.{flags_after, Own}
+use Rattle.time_period.specs.Steps.{IsSteady}
 use Rattle.time_period.proofs.NeedsLemmas.{picked-more}
 use Rattle.time_period.proofs.StepLemmas.{flags-step, steady-more}
 use Rattle.time_period.proofs.compiled.run.Goals as goal

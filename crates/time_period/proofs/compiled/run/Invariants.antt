@@ -1,9 +1,10 @@
 use Rattle.std.proofs.Common.{◌≡◌, ℕ, ◌<◌, ◌≤◌, All, length, take}
-use Rattle.due_model.specs.Limits.{day, max_periods}
+use Rattle.due_model.specs.claims.Limits.{day, max_periods}
 use Rattle.day_rules.specs.Dates.{shown}
 use Rattle.time_period.specs.Flags.{flag_at}
 use Rattle.time_period.specs.Needs.{picked}
-use Rattle.time_period.specs.Steps.{flags_after, IsSteady}
+use Rattle.time_period.specs.claims.Steps.{flags_after}
+use Rattle.time_period.specs.Steps.{IsSteady}
 use Rattle.time_period.proofs.compiled.run.Given as goal
 
 -- The flags after the steps so far.

@@ -1,7 +1,9 @@
 use Rattle.std.proofs.Common.{ℕ, ◌∙◌, subst, ap, take, get_or, arith}
 use Rattle.due_model.specs.declared.config.PeriodId.{PeriodId}
-use Rattle.time_period.specs.Days.{holds_any, holds_at}
-use Rattle.time_period.specs.Steps.{nothing, Own, own_at}
+use Rattle.time_period.specs.claims.Days.{holds_at}
+use Rattle.time_period.specs.Days.{holds_any}
+use Rattle.time_period.specs.claims.Steps.{Own}
+use Rattle.time_period.specs.Steps.{nothing, own_at}
 use Rattle.time_period.specs.Stretches.{Stays}
 use Rattle.time_period.proofs.DayLemmas.{any_more, found_at}
 use Rattle.time_period.proofs.made_day.excluded.Goals as goal

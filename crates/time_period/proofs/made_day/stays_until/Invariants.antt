@@ -1,5 +1,5 @@
 use Rattle.std.proofs.Common.{◌≡◌, ℕ, ◌-◌, ◌<◌, ◌≤◌}
-use Rattle.due_model.specs.Limits.{day}
+use Rattle.due_model.specs.claims.Limits.{day}
 use Rattle.time_period.specs.Days.{holds_without}
 use Rattle.time_period.proofs.made_day.stays_until.Given as goal
 

@@ -2,7 +2,7 @@ use Rattle.std.proofs.Common.{◌∙◌, List, ap, arith, get_or, refl, subst, s
 use Rattle.std.specs.Prelude.{Contains}
 use Rattle.due_model.specs.declared.config.PeriodId.{PeriodId}
 use Rattle.time_period.specs.Flags.{flag_at}
-use Rattle.time_period.specs.Steps.{Own}
+use Rattle.time_period.specs.claims.Steps.{Own}
 use Rattle.time_period.proofs.NeedsLemmas.{kept-at, sweep-passes, sweep-takes, swept-closed}
 use Rattle.time_period.proofs.needs.reached.Goals as goal
 use Rattle.time_period.proofs.needs.reached.Goals.{then-flag+in_ok-push, else-flag}

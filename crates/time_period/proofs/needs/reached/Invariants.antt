@@ -1,5 +1,5 @@
 use Rattle.std.proofs.Common.{◌≡◌, length}
-use Rattle.due_model.specs.Limits.{max_periods}
+use Rattle.due_model.specs.claims.Limits.{max_periods}
 use Rattle.time_period.specs.Flags.{flag_at}
 use Rattle.time_period.proofs.NeedsLemmas.{HasSwept}
 use Rattle.time_period.proofs.needs.reached.Given as goal

@@ -4,7 +4,7 @@ use Rattle.std.proofs.lemmas.List.{get_or_default, take_all}
 use Rattle.lemmas.proofs.Elements.{Contains-none}
 use Rattle.due_model.specs.declared.config.PeriodId.{PeriodId}
 use Rattle.time_period.specs.Flags.{flag_at}
-use Rattle.time_period.specs.Steps.{with_flag}
+use Rattle.time_period.specs.claims.Steps.{with_flag}
 use Rattle.time_period.proofs.NeedsLemmas.{more-there, read-there, set-here, set-kept, set-others}
 use Rattle.time_period.proofs.needs.set_all.Goals as goal
 

@@ -1,7 +1,7 @@
 use Rattle.std.proofs.Common.{◌≡◌, ℕ, ◌⊎◌, true, length, take}
 use Rattle.std.specs.Prelude.{Contains}
 use Rattle.due_model.specs.declared.config.PeriodId.{PeriodId}
-use Rattle.due_model.specs.Limits.{max_periods}
+use Rattle.due_model.specs.claims.Limits.{max_periods}
 use Rattle.time_period.specs.Flags.{flag_at}
 use Rattle.time_period.proofs.needs.set_all.Given as goal
 

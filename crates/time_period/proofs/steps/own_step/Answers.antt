@@ -1,7 +1,7 @@
 use Rattle.std.proofs.Common.{◌<◌, ◌∙◌, List, All, subst, sym}
 use Rattle.due_model.specs.declared.config.Dated.{Dated}
 use Rattle.due_model.specs.declared.config.PeriodId.{PeriodId}
-use Rattle.due_model.specs.Limits.{max_periods}
+use Rattle.due_model.specs.claims.Limits.{max_periods}
 use Rattle.time_period.specs.Steps.{AreMergedLines, IsOwnOf}
 use Rattle.time_period.proofs.MergeLemmas.{all-days, all-lines}
 use Rattle.time_period.proofs.StepLemmas.{own-of}

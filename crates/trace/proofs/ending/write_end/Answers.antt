@@ -3,7 +3,7 @@ use Rattle.text_lines.specs.LineReader.{to_come}
 use Rattle.command_input.specs.InputLaws.{some_all}
 use Rattle.command_output.specs.declared.outcome.Ending.TheVariants.{Short}
 use Rattle.lemmas.proofs.Results.{on_err_always}
-use Rattle.world_steps.specs.Views.{world_setup}
+use Rattle.world_steps.specs.claims.Views.{world_setup}
 use Rattle.trace.specs.declared.feed.AfterFeed.{AfterFeed}
 use Rattle.trace.specs.declared.feed.AfterFeed.TheVariants.{Nothing, Cut}
 use Rattle.trace.specs.Run.{run_state}

@@ -1,11 +1,11 @@
 use Rattle.std.proofs.Common.{◌++◌, Bool, true, IfSome, sym, ap, subst, ◌∙◌}
 use Rattle.std.proofs.lemmas.Option.{IfSome_then}
 use Rattle.lemmas.proofs.Results.{on_err_always}
-use Rattle.written.specs.Written.{Leaves, WritesFront}
+use Rattle.written.specs.claims.Written.{Leaves, WritesFront}
 use Rattle.command_output.specs.declared.outcome.Ending.{Ending}
 use Rattle.text_lines.specs.LineReader.{to_come}
-use Rattle.world_steps.specs.Views.{world_setup, world_state}
-use Rattle.world_steps.specs.Worlds.{Setup}
+use Rattle.world_steps.specs.claims.Views.{world_setup, world_state}
+use Rattle.world_steps.specs.claims.Worlds.{Setup}
 use Rattle.trace.specs.declared.feed.AfterFeed.TheVariants.{Steps}
 use Rattle.trace.specs.LaneLines.{world_text}
 use Rattle.trace.specs.Run.{run_state}

@@ -1,6 +1,6 @@
 use Rattle.std.proofs.Common.{◌≡◌, ◌+◌, ◌-◌, ◌≤◌, None}
-use Rattle.event_feed.specs.Feed.{feed_limit}
-use Rattle.text_lines.specs.Lines.{Known}
+use Rattle.event_feed.specs.claims.Feed.{feed_limit}
+use Rattle.text_lines.specs.claims.Lines.{Known}
 use Rattle.trace.specs.FeedRun.{ReadsSome, Unmoved}
 use Rattle.trace.specs.Run.{Fits}
 use Rattle.trace.proofs.feed.read_feed.Given as goal

@@ -1,7 +1,7 @@
 use Rattle.std.proofs.Common.{◌≡◌, ◌++◌, ℕ, Ok, true, refl, sym, subst, ◌∙◌}
 use Rattle.lemmas.proofs.Results.{on_err_always}
-use Rattle.written.specs.Written.{Leaves, WritesFront}
-use Rattle.text_lines.specs.Lines.{Known}
+use Rattle.written.specs.claims.Written.{Leaves, WritesFront}
+use Rattle.text_lines.specs.claims.Lines.{Known}
 use Rattle.trace.specs.declared.feed.AfterFeed.{AfterFeed}
 use Rattle.trace.specs.Feed.{IsMark, added}
 use Rattle.trace.specs.FeedRun.{EndsFeed}

@@ -1,6 +1,6 @@
 use Rattle.std.proofs.Common.{ap, arith, length}
 use Rattle.due_model.specs.declared.config.Config.{Config}
-use Rattle.world_steps.specs.Views.{world_setup, world_state}
+use Rattle.world_steps.specs.claims.Views.{world_setup, world_state}
 use Rattle.trace.specs.LaneLines.{lane_lines}
 use Rattle.lemmas.proofs.Results.{on_err_always}
 use Rattle.trace.proofs.LaneLaws.{lines_front, lines_more}

@@ -1,7 +1,7 @@
 use Rattle.std.proofs.Common.{◌++◌, flat_map}
 use Rattle.std.specs.List.{range_with_len}
-use Rattle.written.specs.Written.{Leaves}
-use Rattle.world_steps.specs.Views.{world_setup, world_state}
+use Rattle.written.specs.claims.Written.{Leaves}
+use Rattle.world_steps.specs.claims.Views.{world_setup, world_state}
 use Rattle.trace.specs.LaneLines.{lane_lines}
 use Rattle.trace.proofs.lanes.write_lanes.Given as goal
 

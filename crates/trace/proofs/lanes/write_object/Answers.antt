@@ -1,5 +1,5 @@
 use Rattle.std.proofs.Common.{◌++◌, List, OnOk, refl, subst, sym, ◌∙◌, ℕ}
-use Rattle.written.specs.Written.{Leaves}
+use Rattle.written.specs.claims.Written.{Leaves}
 use Rattle.written.specs.WrittenLaws.{front_longer, front_same}
 use Rattle.trace.proofs.LaneLaws.{same_line}
 use Rattle.trace.proofs.lanes.write_object.Goals as goal

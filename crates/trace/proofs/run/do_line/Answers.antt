@@ -1,7 +1,7 @@
 use Rattle.std.proofs.Common.{[], Err, inl, inr, refl, ap}
 use Rattle.std.proofs.lemmas.Result.{on_ok_weaker}
 use Rattle.command_output.specs.declared.trace_line.StepRefusal.TheVariants.{BadStep, NotEnabled}
-use Rattle.command_output.specs.TraceLine.{refused_step_line}
+use Rattle.command_output.specs.claims.TraceLine.{refused_step_line}
 use Rattle.lemmas.proofs.Results.{on_err_always}
 use Rattle.written.specs.WrittenLaws.{leaves_nothing}
 use Rattle.trace.specs.Run.{run_state}

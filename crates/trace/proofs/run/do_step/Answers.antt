@@ -1,7 +1,7 @@
 use Rattle.std.proofs.Common.{Ok, Err, refl, ap, sym}
 use Rattle.steps.specs.declared.step.Step.TheVariants.{Post}
 use Rattle.trace.specs.Run.{posted_after, run_state}
-use Rattle.world_steps.specs.Views.{world_setup}
+use Rattle.world_steps.specs.claims.Views.{world_setup}
 use Rattle.trace.proofs.RunLaws.{next_said, refused_in}
 use Rattle.trace.proofs.run.do_step.Goals as goal
 

@@ -1,10 +1,10 @@
 use Rattle.std.proofs.Common.{◌≡◌, List, ℕ, IfSome, arith, refl, sym, subst, ap, ◌∙◌}
 use Rattle.text_lines.specs.LineReader.{ReadsLine, ReadsFrom, to_come}
-use Rattle.text_lines.specs.Lines.{Known}
+use Rattle.text_lines.specs.claims.Lines.{Known}
 use Rattle.text_lines.specs.declared.line_reader.NextLine.{NextLine}
 use Rattle.text_lines.specs.declared.line_reader.NextLine.TheVariants.{Line, Long, Over}
 use Rattle.text_lines.specs.declared.line_reader.Stop.TheVariants.{InputEnded, CutLine}
-use Rattle.world_steps.specs.Views.{world_setup}
+use Rattle.world_steps.specs.claims.Views.{world_setup}
 use Rattle.trace.specs.Run.{run_state}
 use Rattle.event_feed.specs.FeedLaws.{known_weaker}
 use Rattle.lemmas.proofs.Results.{on_err_always}

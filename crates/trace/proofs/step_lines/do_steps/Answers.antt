@@ -1,8 +1,8 @@
 use Rattle.std.proofs.Common.{ℕ, ◌+◌, arith, ap, refl, ◌∙◌}
 use Rattle.due_model.specs.declared.config.Config.{Config}
 use Rattle.text_lines.specs.LineReader.{to_come}
-use Rattle.world_steps.specs.Views.{world_setup}
-use Rattle.world_steps.specs.Worlds.{Setup}
+use Rattle.world_steps.specs.claims.Views.{world_setup}
+use Rattle.world_steps.specs.claims.Worlds.{Setup}
 use Rattle.trace.specs.Run.{run_state}
 use Rattle.trace.specs.StepLines.{DoesLast, DoesNext, NextFront}
 use Rattle.event_feed.specs.FeedLaws.{known_same, known_then}

@@ -1,7 +1,7 @@
 use Rattle.std.proofs.Common.{◌≡◌}
 use Rattle.text_lines.specs.LineReader.{to_come}
-use Rattle.text_lines.specs.Lines.{Known}
-use Rattle.world_steps.specs.Views.{world_setup}
+use Rattle.text_lines.specs.claims.Lines.{Known}
+use Rattle.world_steps.specs.claims.Views.{world_setup}
 use Rattle.trace.specs.Run.{Fits, run_state}
 use Rattle.trace.specs.StepLines.{DoesSoFar}
 use Rattle.trace.proofs.step_lines.do_steps.Given as goal

@@ -1,6 +1,7 @@
 use Rattle.std.proofs.Common.{List, ap, ◌∙◌}
 use Rattle.std.proofs.lemmas.Result.{IfOk-weaker}
-use Rattle.object_groups.specs.Objects.{ObjectsOf, objects_in}
+use Rattle.object_groups.specs.claims.Objects.{objects_in}
+use Rattle.object_groups.specs.Objects.{ObjectsOf}
 use Rattle.object_reader.specs.declared.block.Block.{Block}
 use Rattle.object_reader.specs.declared.block.BlockKind.TheVariants.{Host, Service}
 use Rattle.value_places.proofs.OriginLemmas.{origins-same}

@@ -3,7 +3,7 @@ use Rattle.std.specs.Prelude.{is_some}
 use Rattle.std.specs.Option.{option_copied}
 use Rattle.std.proofs.lemmas.Result.{IfOk-weaker}
 use Rattle.object_inheritance.specs.Columns.{Column}
-use Rattle.object_inheritance.specs.Inherited.{own, value}
+use Rattle.object_inheritance.specs.claims.Inherited.{own, value}
 use Rattle.value_places.specs.Places.{file_of}
 use Rattle.value_places.proofs.PlaceLemmas.{giver-is, none-given}
 use Rattle.value_places.proofs.places.value_text.Goals as goal

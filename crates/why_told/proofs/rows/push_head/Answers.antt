@@ -1,6 +1,6 @@
 use Rattle.std.proofs.Common.{codes, ◌∙◌}
 use Rattle.local_text.specs.Text.{local_text}
-use Rattle.notice_text.specs.Names.{kind_name, state_name}
+use Rattle.notice_text.specs.claims.Names.{kind_name, state_name}
 use Rattle.why_told.specs.Rows.{head_text, notice_number}
 use Rattle.why_told.proofs.TextLaws.{part, seven_parts}
 use Rattle.why_told.proofs.rows.push_head.Goals as goal

@@ -1,5 +1,5 @@
 use Rattle.std.proofs.Common.{codes}
-use Rattle.notice_text.specs.Texts.{contact_text}
+use Rattle.notice_text.specs.claims.Texts.{contact_text}
 use Rattle.filter_values.specs.Values.{contact_filter_text}
 use Rattle.why_told.specs.Rows.{refused_row}
 use Rattle.why_told.proofs.TextLaws.{four_parts, part}

@@ -1,11 +1,12 @@
 use Rattle.std.proofs.Common.{◌≡◌, ℕ, List, [], ◌∷◌, ◌++◌, Some, length, map, replicate, take, reverse, slice_get, sym, ap, ◌∙◌, subst, arith}
 use Rattle.std.proofs.lemmas.List.{length-map, length-replicate, map-append, replicate-append-replicate}
-use Rattle.decider.specs.Fits.{Fits, kept}
-use Rattle.decider.specs.Outbox.{lists}
+use Rattle.decider.specs.claims.Fits.{Fits, kept}
+use Rattle.decider.specs.claims.Outbox.{lists}
 use Rattle.due_model.specs.declared.notice.Notice.{Notice}
 use Rattle.world_steps.specs.declared.deciders.KeptDecider.{KeptDecider}
-use Rattle.world_steps.specs.Worlds.{DeciderState, new_decider, setup_for}
-use Rattle.world_steps.specs.Fits.{decider_state, DeciderFits, count}
+use Rattle.world_steps.specs.claims.Worlds.{DeciderState, setup_for}
+use Rattle.world_steps.specs.Worlds.{new_decider}
+use Rattle.world_steps.specs.claims.Fits.{decider_state, DeciderFits, count}
 use Rattle.world_steps.proofs.FitLaws.{push_found}
 use Rattle.world_steps.proofs.deciders.new_deciders.Goals as goal
 

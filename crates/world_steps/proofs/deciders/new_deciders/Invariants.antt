@@ -1,7 +1,8 @@
 use Rattle.std.proofs.Common.{◌≡◌, ℕ, [], Some, length, map, replicate, slice_get}
 use Rattle.world_steps.specs.declared.deciders.KeptDecider.{KeptDecider}
-use Rattle.world_steps.specs.Worlds.{new_decider, setup_for}
-use Rattle.world_steps.specs.Fits.{decider_state, DeciderFits}
+use Rattle.world_steps.specs.claims.Worlds.{setup_for}
+use Rattle.world_steps.specs.Worlds.{new_decider}
+use Rattle.world_steps.specs.claims.Fits.{decider_state, DeciderFits}
 use Rattle.world_steps.proofs.deciders.new_deciders.Given as goal
 
 abbrev pub invariant-loop-decider : goal.invariant-loop-decider

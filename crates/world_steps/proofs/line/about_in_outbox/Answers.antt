@@ -5,8 +5,8 @@ use Rattle.std.proofs.lemmas.List.{append-nil}
 use Rattle.std.proofs.lemmas.List.Elements.{filter-append}
 use Rattle.std.proofs.lemmas.Option.{none-some, slice_get_cases}
 use Rattle.due_model.specs.declared.notice.Notice.{Notice}
-use Rattle.decider.specs.Outbox.{waiting_at}
-use Rattle.steps.specs.Lanes.{about}
+use Rattle.decider.specs.claims.Outbox.{waiting_at}
+use Rattle.steps.specs.claims.Lanes.{about}
 use Rattle.world_steps.proofs.ListLemmas.{take_found}
 use Rattle.world_steps.proofs.line.about_in_outbox.Goals.{in-Some+then-notice-object+in_ok-push, in-Some+else-notice-object, in_default}
 use Rattle.world_steps.proofs.line.about_in_outbox.Goals as goal

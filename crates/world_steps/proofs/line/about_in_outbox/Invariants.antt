@@ -1,6 +1,6 @@
 use Rattle.std.proofs.Common.{◌≡◌, take}
-use Rattle.decider.specs.Outbox.{waiting_at}
-use Rattle.steps.specs.Lanes.{about}
+use Rattle.decider.specs.claims.Outbox.{waiting_at}
+use Rattle.steps.specs.claims.Lanes.{about}
 use Rattle.world_steps.proofs.line.about_in_outbox.Given as goal
 
 abbrev pub invariant-loop-place : goal.invariant-loop-place

@@ -3,7 +3,7 @@ use Rattle.std.specs.Prelude.{IfSome}
 use Rattle.std.proofs.lemmas.Bool.{cases_eq}
 use Rattle.jiff_core.proofs.SignedLemmas.{signed_arith}
 use Rattle.jiff_core.specs.declared.timestamp.Timestamp.{Timestamp}
-use Rattle.due_model.specs.Local.{offset}
+use Rattle.due_model.specs.claims.Local.{offset}
 use Rattle.zone_times.specs.Changes.{nanos}
 use Rattle.zone_times.proofs.ChangeLemmas.{below_change, until_change}
 use Rattle.zone_times.proofs.steady.offset_until.Goals as goal

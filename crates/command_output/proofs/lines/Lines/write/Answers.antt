@@ -1,6 +1,6 @@
 use Rattle.std.proofs.Common.{◌≡◌, rules}
 use Rattle.written.specs.WrittenLaws.{front_of_held, front_same}
-use Rattle.command_output.specs.OutputLine.{line_text}
+use Rattle.command_output.specs.claims.OutputLine.{line_text}
 use Rattle.command_output.proofs.lines.Lines.write.Goals as goal
 
 pub returns-in_err-push-clause-front : goal.returns-in_err-push-clause-front

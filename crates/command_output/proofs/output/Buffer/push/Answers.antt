@@ -1,6 +1,6 @@
 use Rattle.std.proofs.Common.{List, ◌++◌, ℕ, subst, sym}
 use Rattle.std.proofs.lemmas.Result.{on_ok_weaker}
-use Rattle.written.specs.Written.{Leaves}
+use Rattle.written.specs.claims.Written.{Leaves}
 use Rattle.written.specs.WrittenLaws.{front_longer, front_next, leaves_next}
 use Rattle.command_output.proofs.output.Buffer.push.Goals as goal
 

@@ -1,4 +1,4 @@
-use Rattle.decider.specs.Fits.{kept}
+use Rattle.decider.specs.claims.Fits.{kept}
 use Rattle.decider.proofs.FitLaws.{fits_with_log}
 use Rattle.decider.proofs.decider.Decider.clear_log.Goals as goal
 

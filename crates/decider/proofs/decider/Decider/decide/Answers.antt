@@ -2,14 +2,15 @@ use Rattle.std.proofs.Common.{◌<◌, List, [], ◌∷◌, ◌++◌, length, sl
 use Rattle.due_model.specs.declared.event.Event.{Event}
 use Rattle.due_model.specs.declared.notice.Notice.{Notice}
 use Rattle.due_model.specs.declared.notice.Suppression.{Suppression}
-use Rattle.due_model.specs.Limits.{max_events}
-use Rattle.due_model.specs.Proper.{IsProper}
+use Rattle.due_model.specs.claims.Limits.{max_events}
+use Rattle.due_model.specs.claims.Proper.{IsProper}
 use Rattle.messages.specs.declared.entries.Entry.{Entry}
 use Rattle.messages.specs.Entries.{notices_on, suppressions_in}
 use Rattle.decider.specs.declared.staging.NewBook.{NewBook}
 use Rattle.decider.specs.Books.{share_books}
-use Rattle.decider.specs.Fits.{Kept, Fits, context_of, core_kept, kept, kept_after}
-use Rattle.decider.specs.Outbox.{lists, waiting_at}
+use Rattle.decider.specs.claims.Fits.{Kept, Fits, core_kept, kept}
+use Rattle.decider.specs.Fits.{context_of, kept_after}
+use Rattle.decider.specs.claims.Outbox.{lists, waiting_at}
 use Rattle.decider.specs.Ready.{IsIndexAfter}
 use Rattle.decider.proofs.FitLaws.{fits_after, fits_with_log, judged_after}
 use Rattle.decider.proofs.LaneLaws.{share_notices, share_suppressions}

@@ -1,4 +1,4 @@
-use Rattle.decider.specs.Fits.{core_kept}
+use Rattle.decider.specs.claims.Fits.{core_kept}
 use Rattle.decider.proofs.FitLaws.{countable}
 use Rattle.decider.proofs.event_decider.EventDecider.commit.Goals as goal
 

@@ -1,10 +1,11 @@
 use Rattle.std.proofs.Common.{◌<◌, List, ◌∷◌, length, subst, sym, ap, ◌∙◌, arith}
 use Rattle.due_model.specs.declared.event.Event.{Event}
-use Rattle.due_model.specs.Limits.{max_events}
-use Rattle.due_model.specs.Proper.{IsProper}
+use Rattle.due_model.specs.claims.Limits.{max_events}
+use Rattle.due_model.specs.claims.Proper.{IsProper}
 use Rattle.decider.specs.declared.staging.NewBook.{NewBook}
 use Rattle.decider.specs.Books.{share_books}
-use Rattle.decider.specs.Fits.{Kept, Fits, context_of, core_kept, kept_after}
+use Rattle.decider.specs.claims.Fits.{Kept, Fits, core_kept}
+use Rattle.decider.specs.Fits.{context_of, kept_after}
 use Rattle.decider.specs.Ready.{IsIndexAfter}
 use Rattle.decider.proofs.FitLaws.{fits_after, judged_after}
 use Rattle.decider.proofs.LaneLaws.{all_entries}

@@ -1,8 +1,9 @@
 use Rattle.std.proofs.Common.{[], length, refl, ap, sym, subst, ◌∙◌, arith}
 use Rattle.std.proofs.lemmas.List.Elements.{All-nil}
 use Rattle.due_model.specs.declared.zone.Zone.{Zone}
-use Rattle.due_model.specs.Proper.{IsProper}
-use Rattle.decider.specs.Statuses.{StatusLists, StatusesFit, no_statuses}
+use Rattle.due_model.specs.claims.Proper.{IsProper}
+use Rattle.decider.specs.claims.Statuses.{StatusLists, StatusesFit}
+use Rattle.decider.specs.Statuses.{no_statuses}
 use Rattle.decider.proofs.BookLaws.{new_fit}
 use Rattle.decider.proofs.ReadyLaws.{new_index_fits}
 use Rattle.decider.proofs.StatusLaws.{none_fit}

@@ -3,7 +3,7 @@ use Rattle.due_model.specs.declared.zone.Zone.{Zone}
 use Rattle.decider.specs.declared.reading.EventContext.{EventContext}
 use Rattle.decider.specs.Books.{share_books}
 use Rattle.decider.specs.Entries.{share_entries}
-use Rattle.decider.specs.Fits.{core_kept}
+use Rattle.decider.specs.claims.Fits.{core_kept}
 use Rattle.decider.proofs.FitLaws.{at_with, has_room, is_at}
 use Rattle.decider.proofs.event_decider.EventDecider.stage.Goals as goal
 

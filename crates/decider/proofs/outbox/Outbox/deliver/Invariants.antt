@@ -1,6 +1,7 @@
 use Rattle.std.proofs.Common.{◌≡◌, ℕ, ◌<◌, ◌++◌, length, drop}
 use Rattle.messages.specs.Entries.{notices_on}
-use Rattle.decider.specs.Outbox.{lists, waiting_at, HasRoomFor}
+use Rattle.decider.specs.claims.Outbox.{lists, waiting_at}
+use Rattle.decider.specs.Outbox.{HasRoomFor}
 use Rattle.decider.proofs.outbox.Outbox.deliver.Given as goal
 
 abbrev pub invariant-loop-entry : goal.invariant-loop-entry

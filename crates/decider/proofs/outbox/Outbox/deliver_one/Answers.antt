@@ -2,7 +2,8 @@ use Rattle.std.proofs.Common.{◌≡◌, ◌+◌, ◌-◌, ◌<◌, ◌++◌, []
 use Rattle.std.proofs.lemmas.List.{length-map}
 use Rattle.messages.specs.declared.entries.Entry.{Entry}
 use Rattle.messages.specs.Entries.{notices_on}
-use Rattle.decider.specs.Outbox.{count_for, waiting_at, lists}
+use Rattle.decider.specs.claims.Outbox.{waiting_at, lists}
+use Rattle.decider.specs.Outbox.{count_for}
 use Rattle.lemmas.proofs.Writes.{at_longer, map-set_by}
 use Rattle.decider.proofs.OutboxLaws.{has_place, one_less}
 use Rattle.decider.proofs.outbox.Outbox.deliver_one.Goals as goal

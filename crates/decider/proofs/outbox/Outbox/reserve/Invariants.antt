@@ -1,5 +1,6 @@
 use Rattle.std.proofs.Common.{◌≡◌, ℕ, ◌<◌, ◌≤◌, length}
-use Rattle.decider.specs.Outbox.{count_for, lists, spare_at}
+use Rattle.decider.specs.claims.Outbox.{lists}
+use Rattle.decider.specs.Outbox.{count_for, spare_at}
 use Rattle.decider.proofs.outbox.Outbox.reserve.Given as goal
 
 abbrev pub invariant-loop-lane : goal.invariant-loop-lane

@@ -1,6 +1,7 @@
 use Rattle.std.proofs.Common.{sym, ap, ◌∙◌}
 use Rattle.due_model.specs.declared.event.EventKind.{EventKind}
-use Rattle.decider.specs.Statuses.{StatusLists, statuses_after, with_state}
+use Rattle.decider.specs.claims.Statuses.{StatusLists}
+use Rattle.decider.specs.Statuses.{statuses_after, with_state}
 use Rattle.decider.proofs.StatusLaws.{ack_counted, depth_counted, flapping_counted, hard_counted, removal_counted, switch_counted}
 use Rattle.decider.proofs.statuses.Statuses.count.Goals as goal
 

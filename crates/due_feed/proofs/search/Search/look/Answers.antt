@@ -1,5 +1,5 @@
 use Rattle.std.proofs.Common.{◌≡◌, ◌<◌, ◌≤◌, ◌+◌, Err, arith, refl, rules, sym, ◌∙◌}
-use Rattle.event_feed.specs.Feed.{feed_limit}
+use Rattle.event_feed.specs.claims.Feed.{feed_limit}
 use Rattle.due_feed.proofs.SearchLaws.{same_fault, seen_all, seen_more, seen_start, seen_stopped}
 use Rattle.due_feed.proofs.search.Search.look.Goals as goal
 

@@ -1,6 +1,6 @@
 use Rattle.std.proofs.Common.{◌≡◌, ◌+◌, ◌-◌}
-use Rattle.decider.specs.Fits.{core_kept}
-use Rattle.event_feed.specs.Feed.{feed_limit}
+use Rattle.decider.specs.claims.Fits.{core_kept}
+use Rattle.event_feed.specs.claims.Feed.{feed_limit}
 use Rattle.due_feed.proofs.SearchLaws.{HasSeen}
 use Rattle.due_feed.proofs.search.Search.look.Given as goal
 

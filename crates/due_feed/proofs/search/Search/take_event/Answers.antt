@@ -4,12 +4,13 @@ use Rattle.lemmas.proofs.Results.{ok_is_no_fault}
 use Rattle.due_model.specs.declared.config.Config.{Config}
 use Rattle.due_model.specs.declared.event.Event.{Event}
 use Rattle.due_model.specs.declared.zone.Zone.{Zone}
-use Rattle.due_model.specs.Limits.{max_events}
-use Rattle.due_model.specs.Proper.{IsProper}
+use Rattle.due_model.specs.claims.Limits.{max_events}
+use Rattle.due_model.specs.claims.Proper.{IsProper}
 use Rattle.decider.specs.declared.share.Share.{Share}
-use Rattle.decider.specs.Fits.{Fits, core_kept}
+use Rattle.decider.specs.claims.Fits.{Fits, core_kept}
 use Rattle.messages.specs.declared.entries.Entry.{Entry}
-use Rattle.messages.specs.Entries.{event_entries, notices_in}
+use Rattle.messages.specs.claims.Entries.{event_entries}
+use Rattle.messages.specs.Entries.{notices_in}
 use Rattle.due_feed.specs.Seen.{StopsAmong, is_ended}
 use Rattle.due_feed.proofs.SearchLaws.{same_fault}
 use Rattle.due_feed.proofs.search.Search.take_event.Given.{Over}

@@ -1,7 +1,7 @@
 use Rattle.std.proofs.Common.{◌≡◌, ◌∷◌, [], List, None, Ok, Some, refl, rules}
 use Rattle.std.proofs.lemmas.Option.{IfSome_then}
 use Rattle.std.proofs.lemmas.Result.{IfOk-weaker}
-use Rattle.event_feed.specs.Feed.{Answer, AreGivenBy, refusal}
+use Rattle.event_feed.specs.claims.Feed.{Answer, AreGivenBy, refusal}
 use Rattle.event_feed.specs.FeedLaws.{event_answers, fault_last, next_given, none_given}
 use Rattle.due_feed.proofs.SearchLaws.{event_taken, fault_taken, if_none, past_at_end, taken_same}
 use Rattle.due_feed.proofs.search.Search.take_line.Given.{Over}

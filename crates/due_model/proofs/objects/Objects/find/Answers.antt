@@ -1,6 +1,7 @@
 use Rattle.std.proofs.Common.{◌∙◌, ◌%◌, ap}
 use Rattle.std.specs.Option.{option_copied}
-use Rattle.due_model.specs.Objects.{name_hash, object_named}
+use Rattle.due_model.specs.claims.Objects.{object_named}
+use Rattle.due_model.specs.Objects.{name_hash}
 use Rattle.due_model.proofs.ObjectIndex.{find-bucket, find-hashed}
 use Rattle.due_model.proofs.objects.Objects.find.Goals as goal
 

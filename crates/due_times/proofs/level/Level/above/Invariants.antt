@@ -1,5 +1,6 @@
 use Rattle.std.proofs.Common.{◌≡◌, ◌+◌, ◌*◌, ◌<◌, length, ℕ}
-use Rattle.due_times.specs.Index.{at, earlier}
+use Rattle.due_times.specs.claims.Index.{at}
+use Rattle.due_times.specs.Index.{earlier}
 use Rattle.due_times.proofs.level.Level.above.Given as goal
 
 abbrev pub invariant-loop-place : goal.invariant-loop-place

@@ -1,4 +1,4 @@
-use Rattle.event_feed.specs.Feed.{no_line}
+use Rattle.event_feed.specs.claims.Feed.{no_line}
 use Rattle.std.proofs.Common.{refl}
 use Rattle.engine.proofs.IntakeLaws.{none_ahead}
 use Rattle.engine.proofs.engine.Engine.run.Goals as goal

@@ -1,8 +1,8 @@
 use Rattle.std.proofs.Common.{◌≡◌, ◌∙◌, List, ap, false, true, subst, sym, ℕ}
 use Rattle.due_model.specs.declared.event.Event.{Event}
-use Rattle.engine.specs.Lanes.{count_of}
-use Rattle.engine.specs.Run.{IsRunOf}
-use Rattle.engine.specs.Unread.{HasStarted, IsUnread}
+use Rattle.engine.specs.claims.Lanes.{count_of}
+use Rattle.engine.specs.claims.Run.{IsRunOf}
+use Rattle.engine.specs.claims.Unread.{HasStarted, IsUnread}
 use Rattle.engine.proofs.FeedsLaws.{feeds_done}
 use Rattle.engine.proofs.RunEndLaws.{run_of_kept}
 use Rattle.engine.proofs.engine.Engine.run_feeds.Goals as goal

@@ -1,5 +1,5 @@
 use Rattle.std.proofs.Common.{true}
-use Rattle.engine.specs.Lanes.{count_of}
+use Rattle.engine.specs.claims.Lanes.{count_of}
 use Rattle.engine.proofs.RunEndLaws.{run_of_kept}
 use Rattle.engine.proofs.engine.Engine.run_within.Goals as goal
 

@@ -1,6 +1,6 @@
 use Rattle.std.proofs.Common.{rules, ◌≡◌, ◌≢◌, ◌++◌, [], ◌∷◌, List, None, Some, ap, length, refl, subst, sym, true}
 use Rattle.due_model.specs.declared.event.Event.{Event}
-use Rattle.due_model.specs.Limits.{max_events}
+use Rattle.due_model.specs.claims.Limits.{max_events}
 use Rattle.event_feed.specs.declared.fault.FeedFault.TheVariants.{Ended}
 use Rattle.event_feed.specs.declared.fault.RefusedLine.{RefusedLine}
 use Rattle.engine.specs.Feed.{Intake, Kept, Offers, accepted, ended}

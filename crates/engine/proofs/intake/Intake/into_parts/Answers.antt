@@ -1,8 +1,9 @@
 use Rattle.std.proofs.Common.{rules, ◌≡◌, ◌∙◌, ◌-◌, Bool, None, Option, Some, IsSome, ap, false, length, subst, sym, take, true, true≢false}
 use Rattle.std.proofs.lemmas.List.Elements.{All-take}
-use Rattle.event_feed.specs.Fault.{is_ahead}
+use Rattle.event_feed.specs.claims.Fault.{is_ahead}
 use Rattle.event_feed.specs.declared.fault.RefusedLine.{RefusedLine}
-use Rattle.engine.specs.Feed.{HasRead, Intake, IsOver, Kept, NoneIsAhead}
+use Rattle.engine.specs.claims.Feed.{NoneIsAhead}
+use Rattle.engine.specs.Feed.{HasRead, Intake, IsOver, Kept}
 use Rattle.engine.proofs.IntakeLaws.{has_read, taken_over}
 use Rattle.engine.proofs.LeftLaws.{left_cut, left_on, left_over}
 use Rattle.engine.proofs.intake.Intake.into_parts.Goals.{else-memory-via-else-memory, else-memory-via-then-memory+else-cut}

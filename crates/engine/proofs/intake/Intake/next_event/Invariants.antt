@@ -1,5 +1,5 @@
 use Rattle.std.proofs.Common.{◌≡◌, ◌+◌, ◌-◌}
-use Rattle.event_feed.specs.Feed.{feed_limit}
+use Rattle.event_feed.specs.claims.Feed.{feed_limit}
 use Rattle.engine.specs.Feed.{Goes}
 use Rattle.engine.proofs.intake.Intake.next_event.Given as goal
 

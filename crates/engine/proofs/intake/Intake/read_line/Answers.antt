@@ -1,6 +1,6 @@
 use Rattle.std.proofs.Common.{rules, ◌≡◌, ◌∙◌, ◌<◌, ℕ, [], ◌∷◌, ◌++◌, List, None, Some, ap, refl, subst, sym}
-use Rattle.event_feed.specs.Fault.{is_ahead}
-use Rattle.event_feed.specs.Feed.{Answer, Feed, no_line, refusal}
+use Rattle.event_feed.specs.claims.Fault.{is_ahead}
+use Rattle.event_feed.specs.claims.Feed.{Answer, Feed, no_line, refusal}
 use Rattle.engine.specs.Feed.{HasRead, Intake, Kept}
 use Rattle.engine.proofs.IntakeLaws.{none_more, over_cut, over_whole, refused_more}
 use Rattle.engine.proofs.intake.Intake.read_line.Given.{Over}

@@ -1,7 +1,8 @@
 use Rattle.std.proofs.Common.{◌∙◌, ◌++◌, ◌∷◌, [], ap, subst, sym}
-use Rattle.event_feed.specs.Feed.{refusal}
+use Rattle.event_feed.specs.claims.Feed.{refusal}
 use Rattle.engine.specs.declared.intake.Next.{Next}
-use Rattle.engine.specs.Feed.{Follows, Intake, IsOver, Kept, NoneIsAhead}
+use Rattle.engine.specs.claims.Feed.{NoneIsAhead}
+use Rattle.engine.specs.Feed.{Follows, Intake, IsOver, Kept}
 use Rattle.engine.specs.FeedLaws.{stays_open_then}
 use Rattle.engine.proofs.IntakeLaws.{has_read, read_taken}
 use Rattle.engine.proofs.intake.Intake.take_line.Goals as goal

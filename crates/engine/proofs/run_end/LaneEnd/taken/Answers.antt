@@ -2,7 +2,7 @@ use Rattle.std.proofs.Common.{rules, arith, ◌≡◌, ◌++◌, ◌∙◌, [], 
 use Rattle.std.proofs.lemmas.List.{take_all}
 use Rattle.std.proofs.lemmas.Option.{get_or_from_slice_get, slice_get_within}
 use Rattle.due_model.specs.declared.notice.Notice.{Notice}
-use Rattle.delivery_worker.specs.Picked.{join_lists}
+use Rattle.delivery_worker.specs.claims.Picked.{join_lists}
 use Rattle.engine.proofs.RecordLaws.{join_more}
 use Rattle.engine.proofs.run_end.LaneEnd.taken.Goals as goal
 

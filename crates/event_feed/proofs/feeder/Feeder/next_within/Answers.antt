@@ -1,6 +1,6 @@
 use Rattle.std.proofs.Common.{◌∙◌, ◌-◌, ◌≤◌, arith, refl, sym}
-use Rattle.text_lines.specs.CountedReader.{calls_after}
-use Rattle.text_lines.specs.LineReader.{call_limit}
+use Rattle.text_lines.specs.claims.CountedReader.{calls_after}
+use Rattle.text_lines.specs.claims.LineReader.{call_limit}
 use Rattle.text_lines.specs.declared.line_reader.Stop.TheVariants.{ReaderFailed, TooManyCalls}
 use Rattle.event_feed.proofs.Answering.{AreGiven-stop, GivesEvent-line, GivesFault-line, GivesFault-long, few-going, not_over, on_some, over_so}
 use Rattle.event_feed.proofs.feeder.Feeder.next_within.Goals as goal

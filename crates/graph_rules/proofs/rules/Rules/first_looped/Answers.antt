@@ -1,7 +1,8 @@
 use Rattle.std.proofs.Common.{◌+◌, ◌∙◌, List, ℕ, refl, subst, sym}
 use Rattle.std.specs.Prelude.{All, Contains, ◌↔◌}
 use Rattle.graph.specs.declared.edges.Edge.{Edge}
-use Rattle.graph.specs.Edges.{IsWithin, Leads}
+use Rattle.graph.specs.claims.Edges.{Leads}
+use Rattle.graph.specs.Edges.{IsWithin}
 use Rattle.graph_rules.specs.Rules.{edge}
 use Rattle.graph_rules.proofs.LinkLemmas.{all-within}
 use Rattle.graph_rules.proofs.LoopLemmas.{first-found, none-found}

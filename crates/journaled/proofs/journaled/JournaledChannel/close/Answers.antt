@@ -1,5 +1,5 @@
 use Rattle.std.proofs.Common.{refl, ap, []}
-use Rattle.channel.specs.Channels.{Account}
+use Rattle.channel.specs.claims.Channels.{Account}
 use Rattle.journaled.proofs.PartLaws.{nothing_offered, of_same}
 use Rattle.journaled.proofs.journaled.JournaledChannel.close.Goals as goal
 

@@ -1,5 +1,6 @@
 use Rattle.std.proofs.Common.{◌≡◌, refl, ap, sym, ◌∙◌, subst, true, false, [], ◌∷◌, rules}
-use Rattle.channel.specs.Channels.{Account, offer_of}
+use Rattle.channel.specs.claims.Channels.{Account}
+use Rattle.channel.specs.Channels.{offer_of}
 use Rattle.journaled.specs.Claims.{IsHeld, Past, is_settled}
 use Rattle.journaled.proofs.PartLaws.{begun_then, chosen_notice, failed_offered, of_same, refused_offered, same_notice, settled_offered, taken_offered, text_is}
 use Rattle.journaled.proofs.journaled.JournaledChannel.deliver.Goals as goal

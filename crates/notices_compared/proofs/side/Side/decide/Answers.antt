@@ -5,12 +5,13 @@ use Rattle.due_model.specs.declared.config.Config.{Config}
 use Rattle.due_model.specs.declared.event.Event.{Event}
 use Rattle.due_model.specs.declared.notice.Notice.{Notice}
 use Rattle.due_model.specs.declared.zone.Zone.{Zone}
-use Rattle.due_model.specs.Limits.{max_events}
-use Rattle.due_model.specs.Proper.{IsProper}
+use Rattle.due_model.specs.claims.Limits.{max_events}
+use Rattle.due_model.specs.claims.Proper.{IsProper}
 use Rattle.decider.specs.declared.share.Share.{Share}
-use Rattle.decider.specs.Fits.{Fits, Kept, core_kept}
+use Rattle.decider.specs.claims.Fits.{Fits, Kept, core_kept}
 use Rattle.messages.specs.declared.entries.Entry.{Entry}
-use Rattle.messages.specs.Entries.{event_entries, notices_in}
+use Rattle.messages.specs.claims.Entries.{event_entries}
+use Rattle.messages.specs.Entries.{notices_in}
 use Rattle.notices_compared.specs.Past.{is_ended}
 use Rattle.notices_compared.proofs.SideLaws.{or_all, or_none}
 use Rattle.notices_compared.proofs.side.Side.decide.Goals as goal

@@ -1,7 +1,7 @@
 use Rattle.std.proofs.Common.{◌∙◌, ap, rules, true}
 use Rattle.object_contacts.proofs.rights.RightsValues.rights_at.Goals as goal
 use Rattle.object_inheritance.specs.Columns.{Column}
-use Rattle.object_listing.specs.Readings.{is_on}
+use Rattle.object_listing.specs.claims.Readings.{is_on}
 
 pub returns : goal.returns
 returns c = record {

@@ -3,7 +3,7 @@ use Rattle.std.specs.Prelude.{codes, slice_get}
 use Rattle.std.proofs.lemmas.Option.{slice_get_read}
 use Rattle.object_inheritance.specs.Columns.{Column}
 use Rattle.object_reader.specs.declared.block.Block.{Block}
-use Rattle.object_listing.specs.Readings.{own_states}
+use Rattle.object_listing.specs.claims.Readings.{own_states}
 use Rattle.object_values.specs.declared.options.CriteriaKind.TheVariants.{OfHosts, OfServices}
 use Rattle.object_dependencies.specs.Pairs.{BlocksOf}
 use Rattle.object_dependencies.proofs.BlockLemmas.{kept-hosts, kept-none, kept-services}

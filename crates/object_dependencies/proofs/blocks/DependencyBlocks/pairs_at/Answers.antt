@@ -1,13 +1,14 @@
 use Rattle.std.proofs.Common.{◌≡◌, ◌+◌, ◌<◌, ◌^◌, ◌∙◌, ap, arith, eqb-true, is_some, length, subst, sym}
 use Rattle.std.proofs.lemmas.List.{nil_from_length}
 use Rattle.object_groups.specs.declared.groups.GroupKind.TheVariants.{HostGroups}
-use Rattle.object_groups.specs.Objects.{names_in, objects_in}
-use Rattle.object_listing.specs.Listing.{AreThose}
+use Rattle.object_groups.specs.claims.Objects.{names_in, objects_in}
+use Rattle.object_listing.specs.claims.Listing.{AreThose}
 use Rattle.object_reached.specs.declared.roles.Role.TheVariants.{Dependent, Master}
-use Rattle.object_reached.specs.Reached.{AreSpokenOf, ReachedOf, SpeaksOf}
+use Rattle.object_reached.specs.claims.Reached.{SpeaksOf}
+use Rattle.object_reached.specs.Reached.{AreSpokenOf, ReachedOf}
 use Rattle.object_reader.specs.declared.block.BlockKind.TheVariants.{Host, Service}
-use Rattle.object_services.specs.Limits.{AreHostLists}
-use Rattle.object_services.specs.Numbers.{pairs_of}
+use Rattle.object_services.specs.claims.Limits.{AreHostLists}
+use Rattle.object_services.specs.claims.Numbers.{pairs_of}
 use Rattle.object_dependencies.specs.Pairs.{BlocksOf}
 use Rattle.object_dependencies.proofs.BlockLemmas.{no-criteria, no-dependents, no-masters, pairs-are}
 use Rattle.object_dependencies.proofs.blocks.DependencyBlocks.pairs_at.Goals as goal

@@ -1,6 +1,6 @@
 use Rattle.std.proofs.Common.{◌≡◌, ◌+◌, ◌<◌, ◌∙◌, List, ap, arith, get_or, length, refl}
 use Rattle.std.proofs.lemmas.Option.{slice_get_read}
-use Rattle.due_model.specs.Limits.{max_dependencies}
+use Rattle.due_model.specs.claims.Limits.{max_dependencies}
 use Rattle.object_reader.specs.declared.block.Block.{Block}
 use Rattle.object_dependencies.proofs.LimitLemmas.{first-over, next-block}
 use Rattle.object_dependencies.proofs.pairs.DependencyPairs.new.Goals as goal

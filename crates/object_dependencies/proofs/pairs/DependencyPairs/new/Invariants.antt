@@ -1,5 +1,5 @@
 use Rattle.std.proofs.Common.{◌≡◌, ◌≤◌}
-use Rattle.due_model.specs.Limits.{max_dependencies}
+use Rattle.due_model.specs.claims.Limits.{max_dependencies}
 use Rattle.object_dependencies.specs.Limits.{IsSoFar}
 use Rattle.object_dependencies.proofs.pairs.DependencyPairs.new.Given as goal
 

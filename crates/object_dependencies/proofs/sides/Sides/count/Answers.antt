@@ -1,5 +1,5 @@
 use Rattle.std.proofs.Common.{◌≡◌, ◌*◌, ◌∙◌, List, ap, arith, length, min, sym, ℕ}
-use Rattle.object_dependencies.specs.Pairs.{Pair}
+use Rattle.object_dependencies.specs.claims.Pairs.{Pair}
 use Rattle.object_dependencies.proofs.PairLemmas.{paired-length}
 use Rattle.object_dependencies.proofs.sides.Sides.count.Goals as goal
 

@@ -1,11 +1,11 @@
 use Rattle.std.proofs.Common.{◌∙◌, List, Bool, ap, map, subst, sym, ℕ}
 use Rattle.std.specs.Prelude.{codes}
-use Rattle.object_groups.specs.Objects.{names_in}
+use Rattle.object_groups.specs.claims.Objects.{names_in}
 use Rattle.object_listing.specs.Contacts.{AskedContacts, IsAsked}
-use Rattle.object_listing.specs.Listing.{AreThose, contact_directives, gives_neither, IsListed}
+use Rattle.object_listing.specs.claims.Listing.{AreThose, contact_directives, gives_neither, IsListed}
 use Rattle.object_reader.specs.declared.block.Block.{Block}
 use Rattle.object_reader.specs.declared.block.BlockKind.TheVariants.{TimePeriod}
-use Rattle.object_listing.specs.Readings.{letters_at, number_at, own_number, own_period}
+use Rattle.object_listing.specs.claims.Readings.{letters_at, number_at, own_number, own_period}
 use Rattle.object_escalations.proofs.GivenLemmas.{read-are}
 use Rattle.object_escalations.proofs.given.Tables.given_at.Goals as goal
 

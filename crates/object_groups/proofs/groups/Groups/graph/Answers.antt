@@ -1,5 +1,6 @@
 use Rattle.std.proofs.Common.{◌≡◌, length, subst}
-use Rattle.object_groups.specs.Groups.{grouping, GroupsOf, object_kind, own_groups_directive}
+use Rattle.object_groups.specs.claims.Groups.{grouping, object_kind, own_groups_directive}
+use Rattle.object_groups.specs.Groups.{GroupsOf}
 use Rattle.object_groups.specs.Nodes.{IsGraphOf, LeadsToMembers}
 use Rattle.object_groups.specs.ObjectLaws.{lists-long}
 use Rattle.object_groups.proofs.NodeLemmas.{leads-to_members}

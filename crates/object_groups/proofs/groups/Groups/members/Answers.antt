@@ -1,10 +1,12 @@
 use Rattle.std.proofs.Common.{◌≡◌, ◌+◌, ◌<◌, ◌≤◌, ◌∙◌, List, ap, arith, length, subst, sym, ℕ}
 use Rattle.std.proofs.lemmas.Result.{IfOk-weaker}
 use Rattle.graph.specs.Reach.{IsReached}
-use Rattle.object_groups.specs.Groups.{group_kind, grouping, GroupsOf, object_kind, own_groups_directive, subgroups_directive}
+use Rattle.object_groups.specs.claims.Groups.{group_kind, grouping, object_kind, own_groups_directive, subgroups_directive}
+use Rattle.object_groups.specs.Groups.{GroupsOf}
 use Rattle.object_groups.specs.Members.{AreMembers}
 use Rattle.object_groups.specs.Nodes.{AreBelow, group_node, IsGraphOf}
-use Rattle.object_groups.specs.Objects.{names_in, ObjectsOf}
+use Rattle.object_groups.specs.claims.Objects.{names_in}
+use Rattle.object_groups.specs.Objects.{ObjectsOf}
 use Rattle.object_groups.proofs.GroupLemmas.{members-are, none-are}
 use Rattle.object_groups.specs.ObjectLaws.{lists-long}
 use Rattle.object_groups.proofs.groups.Groups.members.Goals as goal

@@ -1,6 +1,6 @@
 use Rattle.std.proofs.Common.{◌≡◌, ◌<◌, ◌∙◌, IfSome, List, ap, length, subst, sym, ℕ}
 use Rattle.std.specs.Str.{bytes_eq}
-use Rattle.object_groups.specs.Names.{number_of}
+use Rattle.object_groups.specs.claims.Names.{number_of}
 use Rattle.lemmas.proofs.Searches.{position-within}
 use Rattle.object_groups.proofs.names.Names.find.Goals as goal
 

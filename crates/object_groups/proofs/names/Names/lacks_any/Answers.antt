@@ -1,6 +1,6 @@
 use Rattle.std.proofs.Common.{sym}
 use Rattle.lemmas.proofs.Searches.{any-at, none-more}
-use Rattle.object_groups.specs.Names.{lacks}
+use Rattle.object_groups.specs.claims.Names.{lacks}
 use Rattle.object_groups.proofs.names.Names.lacks_any.Goals as goal
 
 pub returns-then-lacks : goal.returns-then-lacks

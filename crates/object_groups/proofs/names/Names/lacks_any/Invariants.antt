@@ -1,6 +1,6 @@
 use Rattle.std.proofs.Common.{◌≡◌, false, take}
 use Rattle.std.specs.List.{list_any}
-use Rattle.object_groups.specs.Names.{lacks}
+use Rattle.object_groups.specs.claims.Names.{lacks}
 use Rattle.object_groups.proofs.names.Names.lacks_any.Given as goal
 use Rattle.object_values.specs.Values.{texts}
 

@@ -1,5 +1,6 @@
 use Rattle.std.proofs.Common.{◌∙◌, List, ap, length, ℕ}
-use Rattle.object_groups.specs.Objects.{objects_in, ObjectsOf}
+use Rattle.object_groups.specs.claims.Objects.{objects_in}
+use Rattle.object_groups.specs.Objects.{ObjectsOf}
 use Rattle.object_groups.specs.ObjectLaws.{names-long}
 use Rattle.object_groups.proofs.objects.Objects.names.Goals as goal
 

@@ -1,6 +1,7 @@
 use Rattle.std.proofs.Common.{◌<◌, ◌∙◌, List, ap, length, subst, sym, ℕ}
 use Rattle.std.specs.Prelude.{All}
-use Rattle.object_groups.specs.Objects.{objects_in, ObjectsOf}
+use Rattle.object_groups.specs.claims.Objects.{objects_in}
+use Rattle.object_groups.specs.Objects.{ObjectsOf}
 use Rattle.object_groups.proofs.GroupLemmas.{objects-within}
 use Rattle.object_groups.proofs.objects.Objects.places.Goals as goal
 

@@ -2,7 +2,7 @@ use Rattle.std.proofs.Common.{List, None, Option, ap, cond, eqb, sym, ℕ, ◌�
 use Rattle.std.specs.Option.{option_or}
 use Rattle.lemmas.proofs.Lists.{slice_get_read}
 use Rattle.object_inheritance.proofs.GiverLemmas.{own-more}
-use Rattle.object_values.specs.Values.{value_in}
+use Rattle.object_values.specs.claims.Values.{value_in}
 use Rattle.object_inheritance.proofs.givers.Givers.new.Goals as goal
 
 pub loop-place-preserved : goal.loop-place-preserved

@@ -1,6 +1,6 @@
 use Rattle.std.proofs.Common.{◌≡◌, List, take, ℕ}
 use Rattle.object_inheritance.specs.Givers.{own_in}
-use Rattle.object_inheritance.specs.Inherited.{own}
+use Rattle.object_inheritance.specs.claims.Inherited.{own}
 use Rattle.object_inheritance.proofs.givers.Givers.new.Given as goal
 
 -- What the blocks so far give has been added.

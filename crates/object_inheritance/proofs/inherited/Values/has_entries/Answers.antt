@@ -1,7 +1,8 @@
 use Rattle.std.proofs.Common.{◌≡◌, ◌∙◌, List, Option, ap, subst, sym, ℕ}
 use Rattle.object_inheritance.specs.Columns.{given_from, line_of}
 use Rattle.object_inheritance.specs.Givers.{text_at}
-use Rattle.object_inheritance.specs.Inherited.{has_any, has_entries, joined_entries, own_entries}
+use Rattle.object_inheritance.specs.claims.Inherited.{joined_entries, own_entries}
+use Rattle.object_inheritance.specs.Inherited.{has_any, has_entries}
 use Rattle.object_inheritance.specs.declared.inherited.Given.{Given}
 use Rattle.object_inheritance.proofs.EntryLemmas.{any-beside, any-here}
 use Rattle.object_inheritance.proofs.inherited.Values.has_entries.Goals as goal

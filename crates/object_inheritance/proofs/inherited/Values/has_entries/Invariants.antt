@@ -1,6 +1,7 @@
 use Rattle.std.proofs.Common.{◌≡◌, length}
 use Rattle.object_inheritance.specs.Columns.{line_of}
-use Rattle.object_inheritance.specs.Inherited.{has_any, has_entries, joined_entries}
+use Rattle.object_inheritance.specs.claims.Inherited.{joined_entries}
+use Rattle.object_inheritance.specs.Inherited.{has_any, has_entries}
 use Rattle.object_inheritance.proofs.inherited.Values.has_entries.Given as goal
 
 -- The texts that are left have an entry where the list has one.

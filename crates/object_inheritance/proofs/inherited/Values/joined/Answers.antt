@@ -3,7 +3,7 @@ use Rattle.std.specs.Prelude.{reverse}
 use Rattle.std.proofs.lemmas.List.{take_at}
 use Rattle.object_inheritance.specs.Columns.{given_from, line_of}
 use Rattle.object_inheritance.specs.Givers.{text_at}
-use Rattle.object_inheritance.specs.Inherited.{joined_entries, own_entries}
+use Rattle.object_inheritance.specs.claims.Inherited.{joined_entries, own_entries}
 use Rattle.object_values.specs.Values.{texts}
 use Rattle.object_inheritance.specs.declared.inherited.Given.{Given}
 use Rattle.object_inheritance.proofs.ColumnLemmas.{fewer, one-text, texts-reverse}

@@ -1,7 +1,7 @@
 use Rattle.std.proofs.Common.{◌≡◌, ◌++◌, length}
 use Rattle.std.specs.Prelude.{reverse}
 use Rattle.object_inheritance.specs.Columns.{line_of}
-use Rattle.object_inheritance.specs.Inherited.{joined_entries}
+use Rattle.object_inheritance.specs.claims.Inherited.{joined_entries}
 use Rattle.object_values.specs.Values.{texts}
 use Rattle.object_inheritance.proofs.inherited.Values.joined.Given as goal
 

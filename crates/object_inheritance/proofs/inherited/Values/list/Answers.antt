@@ -1,5 +1,5 @@
 use Rattle.std.proofs.Common.{List, Some, ap, sym, ℕ, ◌∙◌}
-use Rattle.object_inheritance.specs.Inherited.{is_additive, list_given, own_entries}
+use Rattle.object_inheritance.specs.claims.Inherited.{is_additive, list_given, own_entries}
 use Rattle.object_inheritance.proofs.ColumnLemmas.{plain-list}
 use Rattle.object_inheritance.proofs.inherited.Values.list.Goals as goal
 

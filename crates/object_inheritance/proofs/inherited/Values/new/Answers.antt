@@ -4,7 +4,7 @@ use Rattle.object_reader.specs.declared.block.Block.{Block}
 use Rattle.object_inheritance.specs.Columns.{HasGivenFrom, IsInherited}
 use Rattle.object_inheritance.specs.Faults.{AreUses}
 use Rattle.object_inheritance.specs.declared.templates.Uses.{Uses}
-use Rattle.object_inheritance.specs.Inherited.{own}
+use Rattle.object_inheritance.specs.claims.Inherited.{own}
 use Rattle.object_inheritance.proofs.ColumnLemmas.{all-used, has-own, nothing-given, stays-given}
 use Rattle.object_inheritance.proofs.InheritedLemmas.{graph-long}
 use Rattle.object_inheritance.proofs.inherited.Values.new.Goals as goal

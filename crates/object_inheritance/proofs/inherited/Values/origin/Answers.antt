@@ -3,7 +3,7 @@ use Rattle.std.specs.Prelude.{IfSome}
 use Rattle.std.specs.Arc.{arc_value}
 use Rattle.std.specs.Option.{option_map}
 use Rattle.object_inheritance.specs.Columns.{Column, line_of}
-use Rattle.object_inheritance.specs.Inherited.{given, own, value}
+use Rattle.object_inheritance.specs.claims.Inherited.{given, own, value}
 use Rattle.object_inheritance.specs.declared.inherited.Given.{Given}
 use Rattle.object_inheritance.proofs.ColumnLemmas.{none-gives, origin-gives, past-none}
 use Rattle.object_inheritance.proofs.inherited.Values.origin.Goals as goal

@@ -2,7 +2,7 @@ use Rattle.std.proofs.Common.{◌<◌, ◌∙◌, List, ℕ, IfSome, Option, ap,
 use Rattle.std.specs.List.{position}
 use Rattle.object_reader.specs.declared.block.Block.{Block}
 use Rattle.object_inheritance.specs.Names.{has_key}
-use Rattle.object_inheritance.specs.Templates.{is_template, template_place}
+use Rattle.object_inheritance.specs.claims.Templates.{is_template, template_place}
 use Rattle.lemmas.proofs.Searches.{position-within}
 use Rattle.object_inheritance.proofs.names.TemplateNames.find.Goals as goal
 

@@ -1,6 +1,7 @@
 use Rattle.std.proofs.Common.{◌∙◌, List, ap, subst, ℕ}
-use Rattle.object_groups.specs.Groups.{grouping, GroupsOf}
-use Rattle.object_groups.specs.Members.{IsMember}
+use Rattle.object_groups.specs.claims.Groups.{grouping}
+use Rattle.object_groups.specs.Groups.{GroupsOf}
+use Rattle.object_groups.specs.claims.Members.{IsMember}
 use Rattle.object_listing.specs.Listing.{Adds, ListingOf}
 use Rattle.object_listing.proofs.ListedLemmas.{all-within, entries-are, group_names-are, listed-are, object_names-are, OfSome, those-are}
 use Rattle.object_listing.proofs.listing.Listing.objects_at.Goals as goal

@@ -1,5 +1,5 @@
 use Rattle.std.proofs.Common.{arith}
-use Rattle.object_periods.specs.Periods.{ranges_at}
+use Rattle.object_periods.specs.claims.Periods.{ranges_at}
 use Rattle.object_periods.proofs.DayLemmas.{days-are}
 use Rattle.object_periods.proofs.days.Week.at.Goals as goal
 

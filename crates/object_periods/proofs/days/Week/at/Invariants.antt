@@ -1,6 +1,6 @@
 use Rattle.std.proofs.Common.{◌≡◌, ℕ, ◌<◌, [], get_or, length}
-use Rattle.object_periods.specs.Periods.{ranges_at}
-use Rattle.object_values.specs.Ranges.{weekdays}
+use Rattle.object_periods.specs.claims.Periods.{ranges_at}
+use Rattle.object_values.specs.claims.Ranges.{weekdays}
 use Rattle.object_periods.proofs.days.Week.at.Given as goal
 
 -- The ranges of the weekdays so far.

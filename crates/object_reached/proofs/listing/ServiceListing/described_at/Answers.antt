@@ -1,8 +1,10 @@
 use Rattle.std.proofs.Common.{◌≡◌, ◌∙◌, List, ap, subst, sym, ℕ}
-use Rattle.object_reached.specs.Listed.{of_hosts, ServiceListingOf}
-use Rattle.object_groups.specs.Objects.{list_at}
+use Rattle.object_reached.specs.claims.Listed.{of_hosts}
+use Rattle.object_reached.specs.Listed.{ServiceListingOf}
+use Rattle.object_groups.specs.claims.Objects.{list_at}
 use Rattle.object_inheritance.specs.Columns.{Column}
-use Rattle.object_listing.specs.Listing.{AreThose, IsListed, ListingOf}
+use Rattle.object_listing.specs.claims.Listing.{AreThose, IsListed}
+use Rattle.object_listing.specs.Listing.{ListingOf}
 use Rattle.object_reached.proofs.ListedLemmas.{described-are}
 use Rattle.object_reached.proofs.listing.ServiceListing.described_at.Goals as goal
 

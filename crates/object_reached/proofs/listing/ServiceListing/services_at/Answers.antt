@@ -1,8 +1,9 @@
 use Rattle.std.proofs.Common.{◌≡◌, ◌∙◌, List, ap, subst, ℕ}
 use Rattle.std.specs.Prelude.{Contains}
 use Rattle.object_reached.specs.Listed.{AddsMembers, ServiceListingOf}
-use Rattle.object_groups.specs.Names.{numbers_of}
-use Rattle.object_groups.specs.Objects.{list_at, names_in, ObjectsOf}
+use Rattle.object_groups.specs.claims.Names.{numbers_of}
+use Rattle.object_groups.specs.claims.Objects.{list_at, names_in}
+use Rattle.object_groups.specs.Objects.{ObjectsOf}
 use Rattle.object_inheritance.specs.Columns.{Column}
 use Rattle.object_reader.specs.declared.block.Block.{Block}
 use Rattle.object_reader.specs.declared.block.BlockKind.TheVariants.{ServiceGroup}

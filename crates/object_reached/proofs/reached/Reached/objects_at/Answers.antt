@@ -1,11 +1,12 @@
 use Rattle.std.proofs.Common.{◌≡◌, ◌∙◌, List, Some, ap, get_or, length, refl, subst}
 use Rattle.std.specs.Prelude.{slice_get}
 use Rattle.std.proofs.lemmas.Option.{slice_get_read}
-use Rattle.object_listing.specs.Listing.{AreThose, IsListed}
+use Rattle.object_listing.specs.claims.Listing.{AreThose, IsListed}
 use Rattle.object_reader.specs.declared.block.Block.{Block}
-use Rattle.object_reached.specs.Listed.{of_hosts, ServiceListingOf}
+use Rattle.object_reached.specs.claims.Listed.{of_hosts}
+use Rattle.object_reached.specs.Listed.{ServiceListingOf}
 use Rattle.object_reached.specs.Reached.{AreServicesOf, ReachedOf}
-use Rattle.object_reached.specs.Roles.{directives_of, host_kind, service_kind}
+use Rattle.object_reached.specs.claims.Roles.{directives_of, host_kind, service_kind}
 use Rattle.object_reached.proofs.ReachedLemmas.{of-hosts, of-none, of-services}
 use Rattle.object_reached.proofs.reached.Reached.objects_at.Goals as goal
 

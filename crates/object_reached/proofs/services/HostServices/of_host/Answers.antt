@@ -1,6 +1,6 @@
 use Rattle.std.proofs.Common.{◌≡◌, ◌<◌, ◌≤◌, ◌∙◌, List, [], arith, length, subst}
 use Rattle.object_reached.specs.Services.{IsByHost, services_on}
-use Rattle.object_services.specs.Numbers.{Pair}
+use Rattle.object_services.specs.claims.Numbers.{Pair}
 use Rattle.object_reached.proofs.ServiceLemmas.{exactly-of, none-on}
 use Rattle.object_reached.proofs.services.HostServices.of_host.Goals as goal
 

@@ -1,6 +1,7 @@
 use Rattle.std.proofs.Common.{◌≡◌, List, ◌∷◌, Ok, length, inl, inr, ap, sym, ◌∙◌, arith}
 use Rattle.std.proofs.lemmas.Grind.{common_steps}
-use Rattle.object_reader.specs.Joined.{JoinedLine, onto_first}
+use Rattle.object_reader.specs.claims.Joined.{JoinedLine}
+use Rattle.object_reader.specs.Joined.{onto_first}
 use Rattle.object_reader.proofs.Joining.{join_breaks, join_more, join_ends, no_lines_left}
 use Rattle.object_reader.proofs.joined.JoinedReader.join.Goals as goal
 use Rattle.object_reader.proofs.joined.JoinedReader.join.Goals.{then-loop-goes_on-test+else-not-is_empty, else-loop-goes_on-test}

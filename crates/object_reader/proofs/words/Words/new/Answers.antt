@@ -1,4 +1,4 @@
-use Rattle.object_reader.specs.Blanks.{is_blank}
+use Rattle.object_reader.specs.claims.Blanks.{is_blank}
 use Rattle.object_reader.proofs.Trimming.{first_place}
 use Rattle.object_reader.proofs.words.Words.new.Goals as goal
 

@@ -1,9 +1,10 @@
 use Rattle.std.proofs.Common.{List, subst, sym}
-use Rattle.object_groups.specs.Objects.{objects_in}
+use Rattle.object_groups.specs.claims.Objects.{objects_in}
 use Rattle.object_reader.specs.declared.block.Block.{Block}
 use Rattle.object_reader.specs.declared.block.BlockKind.TheVariants.{Service}
-use Rattle.object_services.specs.Limits.{AreHostLists}
-use Rattle.object_service_groups.specs.Groups.{AreNodes, grouping}
+use Rattle.object_services.specs.claims.Limits.{AreHostLists}
+use Rattle.object_service_groups.specs.claims.Groups.{grouping}
+use Rattle.object_service_groups.specs.Groups.{AreNodes}
 use Rattle.object_service_groups.proofs.groups.ServiceGroups.first_node.Goals as goal
 
 pub returns : goal.returns

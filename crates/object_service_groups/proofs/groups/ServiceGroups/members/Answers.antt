@@ -1,13 +1,15 @@
 use Rattle.std.proofs.Common.{◌+◌, ◌<◌, ◌≤◌, ◌∙◌, List, ap, arith, length, subst, sym, ℕ}
 use Rattle.graph.specs.Reach.{IsReached}
-use Rattle.object_groups.specs.Objects.{names_in, objects_in, ObjectsOf}
-use Rattle.object_listing.specs.Listing.{AreThose}
+use Rattle.object_groups.specs.claims.Objects.{names_in, objects_in}
+use Rattle.object_groups.specs.Objects.{ObjectsOf}
+use Rattle.object_listing.specs.claims.Listing.{AreThose}
 use Rattle.object_reader.specs.declared.block.Block.{Block}
 use Rattle.object_reader.specs.declared.block.BlockKind.TheVariants.{Service, ServiceGroup}
-use Rattle.object_services.specs.Limits.{AreHostLists}
-use Rattle.object_services.specs.Numbers.{pairs_of}
-use Rattle.object_service_groups.specs.Groups.{AreNodes, grouping}
-use Rattle.object_service_groups.specs.Members.{IsMember}
+use Rattle.object_services.specs.claims.Limits.{AreHostLists}
+use Rattle.object_services.specs.claims.Numbers.{pairs_of}
+use Rattle.object_service_groups.specs.claims.Groups.{grouping}
+use Rattle.object_service_groups.specs.Groups.{AreNodes}
+use Rattle.object_service_groups.specs.claims.Members.{IsMember}
 use Rattle.object_service_groups.specs.Nodes.{AreBelow}
 use Rattle.object_service_groups.proofs.GroupLemmas.{grouping-well, named-long}
 use Rattle.object_service_groups.proofs.NodeLemmas.{group_node, members-are, none-are}

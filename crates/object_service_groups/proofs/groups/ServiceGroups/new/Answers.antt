@@ -1,6 +1,7 @@
 use Rattle.std.proofs.Common.{◌≡◌, ◌+◌, ◌<◌, ◌^◌, ◌∙◌, List, ap, arith, length, ℕ}
 use Rattle.graph.specs.Reach.{Found}
-use Rattle.object_groups.specs.Objects.{objects_in, ObjectsOf}
+use Rattle.object_groups.specs.claims.Objects.{objects_in}
+use Rattle.object_groups.specs.Objects.{ObjectsOf}
 use Rattle.object_reader.specs.declared.block.Block.{Block}
 use Rattle.object_reader.specs.declared.block.BlockKind.TheVariants.{Service}
 use Rattle.object_service_groups.proofs.GroupLemmas.{kept-are}

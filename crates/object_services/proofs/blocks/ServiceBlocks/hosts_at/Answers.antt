@@ -1,7 +1,8 @@
 use Rattle.std.proofs.Common.{◌∙◌, ap, subst, sym}
 use Rattle.std.specs.Prelude.{IfOk}
 use Rattle.object_groups.specs.Groups.{GroupsOf}
-use Rattle.object_listing.specs.Listing.{AreThose, IsListed, ListingOf}
+use Rattle.object_listing.specs.claims.Listing.{AreThose, IsListed}
+use Rattle.object_listing.specs.Listing.{ListingOf}
 use Rattle.object_services.proofs.BlockLemmas.{kept-are}
 use Rattle.object_services.proofs.blocks.ServiceBlocks.hosts_at.Goals as goal
 

@@ -1,5 +1,5 @@
 use Rattle.std.proofs.Common.{◌<◌, ◌∙◌, IfSome, List, Option, ap, length, subst, sym, ℕ}
-use Rattle.object_services.specs.Numbers.{is_pair, Pair, service_number}
+use Rattle.object_services.specs.claims.Numbers.{is_pair, Pair, service_number}
 use Rattle.lemmas.proofs.Searches.{position-within}
 use Rattle.object_services.proofs.numbers.ServiceNumbers.find.Goals as goal
 

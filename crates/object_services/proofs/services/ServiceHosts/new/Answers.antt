@@ -1,6 +1,6 @@
 use Rattle.std.proofs.Common.{◌≡◌, ◌+◌, ◌<◌, ◌∙◌, List, ap, arith, get_or, length, map, refl, subst, ℕ}
 use Rattle.std.proofs.lemmas.Option.{slice_get_read}
-use Rattle.due_model.specs.Limits.{max_objects}
+use Rattle.due_model.specs.claims.Limits.{max_objects}
 use Rattle.object_reader.specs.declared.block.Block.{Block}
 use Rattle.object_services.specs.Limits.{IsSoFar}
 use Rattle.object_services.proofs.LimitLemmas.{all-few, all-listed, all-within, first-over, next-block}

@@ -1,5 +1,5 @@
 use Rattle.std.proofs.Common.{◌≡◌, ◌≤◌, map}
-use Rattle.due_model.specs.Limits.{max_objects}
+use Rattle.due_model.specs.claims.Limits.{max_objects}
 use Rattle.object_services.specs.Limits.{IsSoFar}
 use Rattle.object_services.proofs.services.ServiceHosts.new.Given as goal
 

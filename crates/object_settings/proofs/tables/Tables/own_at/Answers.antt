@@ -1,12 +1,12 @@
 use Rattle.std.proofs.Common.{◌∙◌, List, Bool, ap, false, map, refl, subst, sym, true, ℕ}
 use Rattle.std.specs.Prelude.{codes}
-use Rattle.object_groups.specs.Objects.{names_in}
+use Rattle.object_groups.specs.claims.Objects.{names_in}
 use Rattle.object_inheritance.specs.Columns.{Column}
 use Rattle.object_listing.specs.Contacts.{AskedContacts, IsAsked}
-use Rattle.object_listing.specs.Listing.{AreThose, contact_directives, gives_neither, IsListed}
+use Rattle.object_listing.specs.claims.Listing.{AreThose, contact_directives, gives_neither, IsListed}
 use Rattle.object_reader.specs.declared.block.Block.{Block}
 use Rattle.object_reader.specs.declared.block.BlockKind.TheVariants.{TimePeriod}
-use Rattle.object_listing.specs.Readings.{is_on, letters_at, number_at, own_number, own_period}
+use Rattle.object_listing.specs.claims.Readings.{is_on, letters_at, number_at, own_number, own_period}
 use Rattle.object_settings.specs.Own.{AreRead, options_of}
 use Rattle.object_settings.proofs.TableLemmas.{read-are}
 use Rattle.object_settings.proofs.tables.Tables.own_at.Goals as goal

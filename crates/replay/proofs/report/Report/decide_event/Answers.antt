@@ -4,15 +4,15 @@ use Rattle.lemmas.proofs.Results.{ok_is_no_fault}
 use Rattle.due_model.specs.declared.config.Config.{Config}
 use Rattle.due_model.specs.declared.event.Event.{Event}
 use Rattle.due_model.specs.declared.zone.Zone.{Zone}
-use Rattle.due_model.specs.Limits.{max_events}
-use Rattle.due_model.specs.Proper.{IsProper}
+use Rattle.due_model.specs.claims.Limits.{max_events}
+use Rattle.due_model.specs.claims.Proper.{IsProper}
 use Rattle.messages.specs.declared.entries.Entry.{Entry}
 use Rattle.decider.specs.declared.share.Share.{Share}
-use Rattle.decider.specs.Fits.{Fits, core_kept}
-use Rattle.messages.specs.Entries.{event_entries}
-use Rattle.command_output.specs.OutputLine.{entries_text}
-use Rattle.written.specs.Written.{WritesFront}
-use Rattle.replay.specs.Report.{answer_text, is_ended}
+use Rattle.decider.specs.claims.Fits.{Fits, core_kept}
+use Rattle.messages.specs.claims.Entries.{event_entries}
+use Rattle.command_output.specs.claims.OutputLine.{entries_text}
+use Rattle.written.specs.claims.Written.{WritesFront}
+use Rattle.replay.specs.claims.Report.{answer_text, is_ended}
 use Rattle.replay.proofs.ReportLaws.{event_text, text_of_end}
 use Rattle.written.specs.WrittenLaws.{front_longer, front_same, leaves_same}
 use Rattle.replay.proofs.report.Report.decide_event.Given.{Over}

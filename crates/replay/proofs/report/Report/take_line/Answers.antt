@@ -1,12 +1,13 @@
 use Rattle.std.proofs.Common.{◌≡◌, List, ◌∷◌, [], cond, None, Ok, Some, refl, rules, ◌∙◌}
 use Rattle.std.proofs.lemmas.Option.{IfSome_then}
 use Rattle.std.proofs.lemmas.Result.{IfOk-weaker}
-use Rattle.decider.specs.Fits.{core_kept}
-use Rattle.event_feed.specs.Feed.{Answer, AreGivenBy, refusal}
+use Rattle.decider.specs.claims.Fits.{core_kept}
+use Rattle.event_feed.specs.claims.Feed.{Answer, AreGivenBy, refusal}
 use Rattle.event_feed.specs.FeedLaws.{event_answers, fault_given, fault_last, next_given, none_given}
 use Rattle.written.specs.WrittenLaws.{front_begun, front_none, leaves_nothing, leaves_same}
-use Rattle.command_output.specs.ReportLine.{refused_line}
-use Rattle.replay.specs.Report.{WritesPart, answer_text, is_ended, past_after, report_from}
+use Rattle.command_output.specs.claims.ReportLine.{refused_line}
+use Rattle.replay.specs.claims.Report.{answer_text, is_ended, past_after, report_from}
+use Rattle.replay.specs.Report.{WritesPart}
 use Rattle.replay.proofs.ReportLaws.{event_taken, fault_taken, if_none, report_of_end, report_of_refusal, short_at_end, short_at_refusal, taken_same, text_of_event}
 use Rattle.replay.proofs.report.Report.take_line.Given.{Over}
 use Rattle.replay.proofs.report.Report.take_line.Goals.{After-decide_event, After-write}

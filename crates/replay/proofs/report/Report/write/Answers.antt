@@ -1,6 +1,6 @@
 use Rattle.std.proofs.Common.{◌<◌, ◌≤◌, ◌+◌, arith, refl, ◌∙◌}
-use Rattle.decider.specs.Fits.{core_kept}
-use Rattle.event_feed.specs.Feed.{feed_limit}
+use Rattle.decider.specs.claims.Fits.{core_kept}
+use Rattle.event_feed.specs.claims.Feed.{feed_limit}
 use Rattle.replay.proofs.ReportLaws.{written_cut, written_front, written_held, written_less, written_more, written_start, written_whole}
 use Rattle.replay.specs.Report.{WritesReportFront}
 use Rattle.replay.proofs.report.Report.write.Given.{Over}

@@ -3,14 +3,14 @@ use Rattle.std.proofs.lemmas.Bool.{eq-eqb, ne_eqb}
 use Rattle.lemmas.proofs.Results.{ok_is_no_fault}
 use Rattle.due_model.specs.declared.config.Config.{Config}
 use Rattle.due_model.specs.declared.zone.Zone.{Zone}
-use Rattle.due_model.specs.Limits.{max_events}
-use Rattle.due_model.specs.Proper.{IsProper}
+use Rattle.due_model.specs.claims.Limits.{max_events}
+use Rattle.due_model.specs.claims.Proper.{IsProper}
 use Rattle.messages.specs.declared.entries.Entry.{Entry}
 use Rattle.decider.specs.declared.share.Share.{Share}
-use Rattle.messages.specs.Entries.{event_entries}
+use Rattle.messages.specs.claims.Entries.{event_entries}
 use Rattle.night_marks.specs.declared.night.Night.{Night}
 use Rattle.night_marks.specs.Night.{heard_event, told_entries}
-use Rattle.replay.specs.Report.{is_ended}
+use Rattle.replay.specs.claims.Report.{is_ended}
 use Rattle.line_forms.specs.declared.report_line.ReportLine.TheVariants.{Decided}
 use Rattle.report_telling.specs.Told.{after_all, form_of, told_all}
 use Rattle.report_picture.proofs.drawing.Drawing.decide_event.Goals as goal

@@ -1,5 +1,5 @@
 use Rattle.std.proofs.Common.{List, ℕ, [], subst}
-use Rattle.written.specs.Written.{Leaves, WritesFront}
+use Rattle.written.specs.claims.Written.{Leaves, WritesFront}
 use Rattle.written.specs.WrittenLaws.{front_none}
 use Rattle.report_picture.proofs.drawing.Drawing.finish.Goals as goal
 

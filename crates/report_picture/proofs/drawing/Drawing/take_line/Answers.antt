@@ -2,11 +2,11 @@ use Rattle.std.proofs.Common.{◌≡◌, List, ◌∷◌, ◌++◌, [], cond, No
 use Rattle.std.proofs.lemmas.List.{append-nil}
 use Rattle.std.proofs.lemmas.Option.{IfSome_then}
 use Rattle.std.proofs.lemmas.Result.{IfOk-weaker}
-use Rattle.decider.specs.Fits.{Fits, core_kept}
-use Rattle.event_feed.specs.Feed.{Answer, AreGivenBy, refusal}
+use Rattle.decider.specs.claims.Fits.{Fits, core_kept}
+use Rattle.event_feed.specs.claims.Feed.{Answer, AreGivenBy, refusal}
 use Rattle.event_feed.specs.FeedLaws.{event_answers, fault_last, next_given, none_given}
 use Rattle.line_forms.specs.declared.report_line.ReportLine.{ReportLine}
-use Rattle.replay.specs.Report.{past_after}
+use Rattle.replay.specs.claims.Report.{past_after}
 use Rattle.report_telling.specs.Lines.{refusal_line}
 use Rattle.report_telling.specs.Told.{after_all, form_of, told_all}
 use Rattle.report_telling.specs.ToldLaws.{told-one}

@@ -4,16 +4,16 @@ use Rattle.lemmas.proofs.Results.{ok_is_no_fault}
 use Rattle.due_model.specs.declared.config.Config.{Config}
 use Rattle.due_model.specs.declared.event.Event.{Event}
 use Rattle.due_model.specs.declared.zone.Zone.{Zone}
-use Rattle.due_model.specs.Limits.{max_events}
-use Rattle.due_model.specs.Proper.{IsProper}
+use Rattle.due_model.specs.claims.Limits.{max_events}
+use Rattle.due_model.specs.claims.Proper.{IsProper}
 use Rattle.event_feed.specs.declared.fault.FeedFault.TheVariants.{Ended}
 use Rattle.messages.specs.declared.entries.Entry.{Entry}
 use Rattle.decider.specs.declared.share.Share.{Share}
-use Rattle.decider.specs.Fits.{Fits, core_kept}
-use Rattle.messages.specs.Entries.{event_entries}
-use Rattle.written.specs.Written.{WritesFront}
+use Rattle.decider.specs.claims.Fits.{Fits, core_kept}
+use Rattle.messages.specs.claims.Entries.{event_entries}
+use Rattle.written.specs.claims.Written.{WritesFront}
 use Rattle.written.specs.WrittenLaws.{front_longer, front_same, leaves_same}
-use Rattle.replay.specs.Report.{is_ended}
+use Rattle.replay.specs.claims.Report.{is_ended}
 use Rattle.line_forms.specs.declared.report_line.ReportLine.{ReportLine}
 use Rattle.line_forms.specs.declared.report_line.ReportLine.TheVariants.{Decided}
 use Rattle.report_telling.specs.Lines.{answer_lines, given_lines, refusal_line}

@@ -1,11 +1,11 @@
 use Rattle.std.proofs.Common.{◌≡◌, List, ◌∷◌, ◌++◌, [], cond, None, Ok, Some, refl, rules, ap, ◌∙◌}
 use Rattle.std.proofs.lemmas.Option.{IfSome_then}
 use Rattle.std.proofs.lemmas.Result.{IfOk-weaker}
-use Rattle.decider.specs.Fits.{core_kept}
-use Rattle.event_feed.specs.Feed.{Answer, AreGivenBy, refusal}
+use Rattle.decider.specs.claims.Fits.{core_kept}
+use Rattle.event_feed.specs.claims.Feed.{Answer, AreGivenBy, refusal}
 use Rattle.event_feed.specs.FeedLaws.{event_answers, fault_given, fault_last, next_given, none_given}
 use Rattle.written.specs.WrittenLaws.{front_none, front_same, leaves_nothing, leaves_same}
-use Rattle.replay.specs.Report.{is_ended, past_after}
+use Rattle.replay.specs.claims.Report.{is_ended, past_after}
 use Rattle.line_forms.specs.declared.report_line.ReportLine.{ReportLine}
 use Rattle.report_telling.specs.Lines.{answer_lines, given_lines, lines_from, refusal_line}
 use Rattle.report_telling.specs.Telling.{TellsPart}

@@ -1,6 +1,6 @@
 use Rattle.std.proofs.Common.{◌<◌, ◌≤◌, ◌+◌, arith, refl, ◌∙◌}
-use Rattle.decider.specs.Fits.{core_kept}
-use Rattle.event_feed.specs.Feed.{feed_limit}
+use Rattle.decider.specs.claims.Fits.{core_kept}
+use Rattle.event_feed.specs.claims.Feed.{feed_limit}
 use Rattle.report_telling.specs.Told.{form_of}
 use Rattle.report_telling.specs.Telling.{TellsFeedFront}
 use Rattle.report_telling.proofs.TellingLaws.{told_cut, told_front, told_held, told_less, told_on, told_start, told_whole}

@@ -1,7 +1,7 @@
 use Rattle.std.proofs.Common.{◌≡◌, ◌+◌, ◌-◌, ◌≤◌, ℕ, List, length, drop, arith, ap, ◌∙◌}
 use Rattle.std.specs.Prelude.{slice_range}
 use Rattle.std.specs.List.{position_or_len}
-use Rattle.text_lines.specs.Lines.{is_newline}
+use Rattle.text_lines.specs.claims.Lines.{is_newline}
 use Rattle.text_lines.specs.LineReader.{Reading}
 use Rattle.text_lines.proofs.Ranges.{length-range, range-drop, unbroken-from, newline-from}
 use Rattle.text_lines.proofs.line_reader.LineReader.find_newline.Goals as goal

@@ -2,7 +2,8 @@ use Rattle.std.proofs.Common.{◌≡◌, ◌<◌, ◌∙◌, false, length, take
 use Rattle.std.proofs.Math.Seq.{take-length}
 use Rattle.std.proofs.lemmas.Bool.{true≢false}
 use Rattle.std.proofs.lemmas.List.Folds.{list_any_none}
-use Rattle.text_lines.specs.Lines.{IsUnbroken, has_newline, is_newline}
+use Rattle.text_lines.specs.claims.Lines.{has_newline, is_newline}
+use Rattle.text_lines.specs.Lines.{IsUnbroken}
 use Rattle.text_lines.proofs.ReadLines.{OnTheWay-none, Reads-line, held-line, fits-text}
 use Rattle.text_lines.proofs.line_reader.LineReader.next_line.Goals as goal
 

@@ -1,6 +1,7 @@
 use Rattle.std.proofs.Common.{◌≡◌, ◌+◌, ◌<◌, ◌≤◌, length}
-use Rattle.text_lines.specs.CountedReader.{calls_after}
-use Rattle.text_lines.specs.LineReader.{byte_limit, line_limit}
+use Rattle.text_lines.specs.claims.CountedReader.{calls_after}
+use Rattle.text_lines.specs.claims.LineReader.{byte_limit}
+use Rattle.text_lines.specs.LineReader.{line_limit}
 use Rattle.text_lines.specs.Lines.{IsUnbroken}
 use Rattle.text_lines.proofs.ReadLines.{OnTheWay}
 use Rattle.text_lines.proofs.line_reader.LineReader.read_split_line.Given as goal

@@ -1,5 +1,5 @@
 use Rattle.std.proofs.Common.{◌∙◌, ap, arith, sym}
-use Rattle.time_period.specs.Days.{worked_holds}
+use Rattle.time_period.specs.claims.Days.{worked_holds}
 use Rattle.time_period.specs.Flags.{flag_at}
 use Rattle.time_period.proofs.WalkLemmas.{holds_in, same_local}
 use Rattle.time_period.proofs.compiled.Compiled.is_in.Goals as goal

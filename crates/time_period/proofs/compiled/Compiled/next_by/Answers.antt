@@ -1,5 +1,5 @@
 use Rattle.std.proofs.Common.{◌∙◌, Some, sym, subst, arith}
-use Rattle.due_model.specs.Periods.{in_period}
+use Rattle.due_model.specs.claims.Periods.{in_period}
 use Rattle.time_period.specs.Stretches.{Stays}
 use Rattle.time_period.proofs.WalkLemmas.{come_begin, come_on, come_found, come_past, next_of}
 use Rattle.time_period.proofs.compiled.Compiled.next_by.Goals as goal

@@ -1,9 +1,9 @@
 use Rattle.std.proofs.Common.{◌≡◌, ◌-◌, ◌<◌, length, Some}
 use Rattle.due_model.specs.declared.config.Config.{Config}
 use Rattle.due_model.specs.declared.config.PeriodId.{PeriodId}
-use Rattle.due_model.specs.Limits.{max_periods}
-use Rattle.due_model.specs.Periods.{in_period}
-use Rattle.time_period.specs.Days.{IsCompiled}
+use Rattle.due_model.specs.claims.Limits.{max_periods}
+use Rattle.due_model.specs.claims.Periods.{in_period}
+use Rattle.time_period.specs.claims.Days.{IsCompiled}
 use Rattle.time_period.specs.Walks.{HasCome}
 use Rattle.time_period.proofs.compiled.Compiled.next_by.Given as goal
 

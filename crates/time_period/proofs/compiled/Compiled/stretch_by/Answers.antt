@@ -1,7 +1,7 @@
 use Rattle.std.proofs.Common.{subst}
-use Rattle.due_model.specs.Local.{Local}
+use Rattle.due_model.specs.claims.Local.{Local}
 use Rattle.day_rules.specs.Dates.{shown}
-use Rattle.time_period.specs.Days.{worked_holds}
+use Rattle.time_period.specs.claims.Days.{worked_holds}
 use Rattle.time_period.specs.Flags.{flag_at}
 use Rattle.time_period.specs.Steps.{at_second}
 use Rattle.time_period.specs.Stretches.{Stays}

@@ -1,7 +1,8 @@
 use Rattle.std.proofs.Common.{arith, subst, sym}
 use Rattle.day_rules.specs.Dates.{shown}
 use Rattle.time_period.specs.Classes.{holds_by_class}
-use Rattle.time_period.specs.Ranges.{in_ranges, IsDay}
+use Rattle.time_period.specs.claims.Ranges.{in_ranges}
+use Rattle.time_period.specs.Ranges.{IsDay}
 use Rattle.time_period.proofs.DecidedLemmas.{decided-beside, decided-kept, decided-new, ranges-stretch}
 use Rattle.time_period.proofs.decided.Decided.with_named.Goals as goal
 

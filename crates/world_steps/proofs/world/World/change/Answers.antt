@@ -1,5 +1,5 @@
 use Rattle.lemmas.proofs.Results.{on_err_always}
-use Rattle.world_steps.specs.Views.{world_setup}
+use Rattle.world_steps.specs.claims.Views.{world_setup}
 use Rattle.world_steps.proofs.ListLemmas.{on_either}
 use Rattle.world_steps.proofs.StepLaws.{fits_changed, fits_left, state_changed, state_left}
 use Rattle.world_steps.proofs.world.World.change.Goals as goal

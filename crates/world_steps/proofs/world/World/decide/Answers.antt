@@ -2,12 +2,12 @@ use Rattle.std.proofs.Common.{◌≡◌, ◌<◌, ◌≤◌, ◌∷◌, ℕ, Lis
 use Rattle.due_model.specs.declared.config.Config.{Config}
 use Rattle.due_model.specs.declared.event.Event.{Event}
 use Rattle.due_model.specs.declared.zone.Zone.{Zone}
-use Rattle.due_model.specs.Limits.{max_events}
+use Rattle.due_model.specs.claims.Limits.{max_events}
 use Rattle.decider.specs.declared.share.Share.{Share}
-use Rattle.decider.specs.Fits.{settings}
+use Rattle.decider.specs.claims.Fits.{settings}
 use Rattle.world_steps.specs.declared.deciders.KeptDecider.{KeptDecider}
-use Rattle.world_steps.specs.Fits.{count}
-use Rattle.world_steps.specs.Views.{world_setup}
+use Rattle.world_steps.specs.claims.Fits.{count}
+use Rattle.world_steps.specs.claims.Views.{world_setup}
 use Rattle.world_steps.proofs.ListLemmas.{on_either}
 use Rattle.world_steps.proofs.FitLaws.{past_length}
 use Rattle.world_steps.proofs.StepLaws.{here, left, fits_decided, state_decided, fits_kept, state_kept}

@@ -1,13 +1,14 @@
 use Rattle.std.proofs.Common.{◌≡◌, ◌<◌, ◌%◌, ℕ, length, map, sym, ap, ◌∙◌, arith}
 use Rattle.std.proofs.lemmas.List.{length-map}
 use Rattle.std.proofs.lemmas.Result.{IfOk-weaker}
-use Rattle.due_model.specs.Due.{due}
+use Rattle.due_model.specs.claims.Due.{due}
 use Rattle.steps.specs.declared.line.LineParts.{LineParts}
-use Rattle.steps.specs.Lanes.{LaneState, about, all_taken, lane_state}
-use Rattle.world_steps.specs.Worlds.{lane_at, outbox_at}
-use Rattle.world_steps.specs.Steps.{past_of}
-use Rattle.world_steps.specs.Lines.{decider_of, line}
-use Rattle.world_steps.specs.Views.{joined, world_state, world_setup}
+use Rattle.steps.specs.claims.Lanes.{LaneState, about, all_taken, lane_state}
+use Rattle.world_steps.specs.claims.Worlds.{lane_at, outbox_at}
+use Rattle.world_steps.specs.claims.Steps.{past_of}
+use Rattle.world_steps.specs.claims.Lines.{decider_of, line}
+use Rattle.world_steps.specs.claims.Views.{world_state, world_setup}
+use Rattle.world_steps.specs.Views.{joined}
 use Rattle.world_steps.proofs.FitLaws.{lane_read, owner_there, outbox_there, outbox_read}
 use Rattle.world_steps.proofs.LineLaws.{from_five, joined_law}
 use Rattle.world_steps.proofs.world.World.line.Goals as goal

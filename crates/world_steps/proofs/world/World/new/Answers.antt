@@ -1,12 +1,13 @@
 use Rattle.std.proofs.Common.{◌≡◌, List, [], length, map, replicate, sym, ap, ◌∙◌, subst, arith}
 use Rattle.std.proofs.lemmas.List.Elements.{All-nil}
 use Rattle.due_model.specs.declared.event.Event.{Event}
-use Rattle.due_model.specs.Proper.{IsProper}
-use Rattle.steps.specs.Lanes.{LaneState}
-use Rattle.world_steps.specs.Worlds.{DeciderState, new_decider, setup_for}
+use Rattle.due_model.specs.claims.Proper.{IsProper}
+use Rattle.steps.specs.claims.Lanes.{LaneState}
+use Rattle.world_steps.specs.claims.Worlds.{DeciderState, setup_for}
+use Rattle.world_steps.specs.Worlds.{new_decider}
 use Rattle.world_steps.specs.Runs.{new_world}
-use Rattle.steps.specs.Lanes.{lane_state}
-use Rattle.world_steps.specs.Fits.{Fits, StateFits, state_of}
+use Rattle.steps.specs.claims.Lanes.{lane_state}
+use Rattle.world_steps.specs.claims.Fits.{Fits, StateFits, state_of}
 use Rattle.world_steps.proofs.NewWorlds.{new_fits}
 use Rattle.world_steps.proofs.world.World.new.Goals as goal
 

@@ -1,7 +1,7 @@
 use Rattle.std.proofs.Common.{List, is_ok, sym, subst}
 use Rattle.due_model.specs.declared.event.Event.{Event}
-use Rattle.world_steps.specs.Fits.{Fits}
-use Rattle.world_steps.specs.Views.{world_setup}
+use Rattle.world_steps.specs.claims.Fits.{Fits}
+use Rattle.world_steps.specs.claims.Views.{world_setup}
 use Rattle.world_steps.proofs.StepLaws.{fits_pushed}
 use Rattle.world_steps.proofs.world.World.post.Goals as goal
 

@@ -1,9 +1,9 @@
 use Rattle.std.proofs.Common.{◌≡◌, ◌<◌, is_some, true, false, length, refl, sym, ap, ◌∙◌, arith}
 use Rattle.std.proofs.lemmas.List.{length-map}
 use Rattle.lemmas.proofs.Results.{on_err_always}
-use Rattle.decider.specs.Outbox.{waiting_at}
+use Rattle.decider.specs.claims.Outbox.{waiting_at}
 use Rattle.world_steps.specs.declared.deciders.KeptDecider.{KeptDecider}
-use Rattle.world_steps.specs.Views.{world_setup}
+use Rattle.world_steps.specs.claims.Views.{world_setup}
 use Rattle.world_steps.proofs.ListLemmas.{some_front}
 use Rattle.world_steps.proofs.FitLaws.{outbox_there, outbox_read}
 use Rattle.world_steps.proofs.StepLaws.{fits_put, state_put, fits_stays, state_stays}

@@ -2,9 +2,9 @@ use Rattle.std.proofs.Common.{◌∙◌, get_or, subst, sym}
 use Rattle.due_model.specs.declared.event.EventKind.TheVariants.{Clock}
 use Rattle.steps.specs.declared.step.Step.{Step}
 use Rattle.steps.specs.declared.step.Step.TheVariants.{Post}
-use Rattle.world_steps.specs.Runs.{ReplacedTakeNothing}
-use Rattle.world_steps.specs.Views.{world_state, world_setup}
-use Rattle.world_steps.specs.Worlds.{WorldState}
+use Rattle.world_steps.specs.claims.Runs.{ReplacedTakeNothing}
+use Rattle.world_steps.specs.claims.Views.{world_state, world_setup}
+use Rattle.world_steps.specs.claims.Worlds.{WorldState}
 use Rattle.world_steps.proofs.RunLaws.{leads_next, replaced_next, shut_next}
 use Rattle.world_steps.proofs.world.World.run.Goals as goal
 

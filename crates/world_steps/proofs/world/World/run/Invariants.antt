@@ -1,6 +1,6 @@
 use Rattle.std.proofs.Common.{◌≡◌, take}
-use Rattle.world_steps.specs.Runs.{LeadsTo, ReplacedTakeNothing, ShutTakesNothing}
-use Rattle.world_steps.specs.Views.{world_state, world_setup}
+use Rattle.world_steps.specs.claims.Runs.{LeadsTo, ReplacedTakeNothing, ShutTakesNothing}
+use Rattle.world_steps.specs.claims.Views.{world_state, world_setup}
 use Rattle.world_steps.proofs.world.World.run.Given as goal
 
 abbrev pub invariant-loop-index : goal.invariant-loop-index

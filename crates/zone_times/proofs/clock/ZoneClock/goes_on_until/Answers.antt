@@ -1,6 +1,6 @@
 use Rattle.std.proofs.Common.{◌+◌, ◌<◌, arith}
-use Rattle.due_model.specs.Limits.{day}
-use Rattle.due_model.specs.Local.{local}
+use Rattle.due_model.specs.claims.Limits.{day}
+use Rattle.due_model.specs.claims.Local.{local}
 use Rattle.zone_times.proofs.ClockLemmas.{goes_on_in_day}
 use Rattle.zone_times.proofs.clock.ZoneClock.goes_on_until.Goals as goal
 

@@ -1,0 +1,2 @@
+-- What one must read to believe the headline statements (tools/headlines.py).
+pub mod Index

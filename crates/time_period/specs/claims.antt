@@ -1,0 +1,4 @@
+-- What one must read to believe the headline statements (tools/headlines.py).
+pub mod Ranges
+pub mod Steps
+pub mod Days
