@@ -6,7 +6,7 @@ use Rattle.clap.specs.declared.builder.action.ArgAction.TheVariants.{Append}
 use Rattle.clap.specs.declared.parser.matches.Found.{Found}
 use Rattle.clap.specs.Words.{App, Rule, new_app, with_rule}
 use Rattle.command_line.specs.declared.check.CheckWords.{CheckWords}
-use Rattle.command_line.specs.Options.{flag_option, IsFlag, text_option, with_zone}
+use Rattle.command_line.specs.Options.{flag_option, IsFlag, text_option, with_site}
 
 -- The files that the options of `check` hold; the warnings that are left out; whether these count for the status; and whether
 -- each fault is to be JSON.
@@ -30,7 +30,7 @@ objects_option = record (text_option (codes "objects")) { action = Some Append; 
 abbrev pub allow_option : Rule
 allow_option = record (text_option (codes "allow")) { action = Some Append }
 
--- `check` has these, `--strict`, `--json`, and the zone
+-- `check` has these, `--strict`, `--json`, and what says of the zone and whose rules decide
 abbrev pub check_words : App
-check_words = with_zone (with_rule (with_rule (with_rule (with_rule (new_app (codes "check"))
+check_words = with_site (with_rule (with_rule (with_rule (with_rule (new_app (codes "check"))
     objects_option) allow_option) (flag_option (codes "strict"))) (flag_option (codes "json")))

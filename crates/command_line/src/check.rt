@@ -6,7 +6,7 @@ ghost use Rattle.clap.specs.Words.{app_of, rule_of};
 ghost use Rattle.command_line.specs.Check.{IsCheckOf, LacksCheck, allow_option, check_words, objects_option};
 ghost use Rattle.command_line.specs.Words.{AreSettingsFit, CheckLacks, IsRequestOf, request_name};
 
-use crate::options::{flag_option, text_option, with_zone, zone_words};
+use crate::options::{flag_option, text_option, with_site, zone_words};
 use crate::words::Request;
 use clap::{Arg, ArgAction, ArgMatches, Command};
 use std::alloc::{AllocError, Global};
@@ -90,7 +90,7 @@ pub(crate) fn check_command<'a>(alloc: Global) -> Result<Command<'a>, AllocError
         .arg(allow_option(alloc))?
         .arg(strict)?
         .arg(json)?;
-    with_zone(alloc, command)
+    with_site(alloc, command)
 }
 
 /// What the options of `check` ask.

@@ -3,6 +3,7 @@
 use crate::faults::{file_text, say_more};
 use command_line::CheckWords;
 use command_output::{AnyWriter, CommandFault};
+use due_model::config::Choices;
 use due_model::zone::Zone;
 use faults_told::located::Source;
 use object_warnings::warning::ALL;
@@ -64,7 +65,7 @@ fn add_file<'a>(
 /// Says on standard error what a check failed with, and gives its exit status.
 fn status_of_fault(rt: &HostRuntime, fault: CommandFault, name: &str) -> ExitCode {
     let _ = rt.eprintln(format_args!("{fault}"));
-    say_more(rt, name, fault);
+    say_more(rt, false, name, fault);
     ExitCode::from(fault.status())
 }
 
@@ -91,12 +92,14 @@ fn moment_of<T: Clock>(clock: &T) -> u64 {
 fn check_texts<'m>(
     rt: &HostRuntime,
     texts: Texts<'m>,
+    choices: Choices,
     zone: &'m Zone,
     has_zone: bool,
     asked: CheckWords<'m, 'm>,
 ) -> Result<bool, CommandFault> {
     let (text, sources) = (texts.text, texts.sources);
     let form = Form {
+        choices,
         sources: sources.as_slice(),
         json: asked.json,
         allowed: asked.allowed.unwrap_or(&[]),
@@ -128,6 +131,7 @@ fn unknown_warning<'a>(names: &[&'a str]) -> Option<&'a str> {
 /// Checks object text, and gives the exit status: 1 where there is a fault, or a warning where these count.
 pub(crate) fn status_of_check(
     rt: &HostRuntime,
+    choices: Choices,
     zone: &Zone,
     has_zone: bool,
     asked: CheckWords<'_, '_>,
@@ -147,7 +151,7 @@ pub(crate) fn status_of_check(
             return status_of_fault(rt, fault, *name);
         }
     }
-    match check_texts(rt, texts, zone, has_zone, asked) {
+    match check_texts(rt, texts, choices, zone, has_zone, asked) {
         Ok(false) => ExitCode::from(0),
         Ok(true) => ExitCode::from(1),
         Err(fault) => status_of_fault(rt, fault, ""),

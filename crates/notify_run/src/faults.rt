@@ -68,7 +68,7 @@ fn say_unreadable(rt: &HostRuntime, path: &str) {
 /// Says where the fault of object text stands.
 fn say_told(rt: &HostRuntime, name: &str, text: &[u8], fault: LoadFault) {
     let sources = [Source { name, before: 0 }];
-    if let Ok(lines) = told(rt.alloc(), &sources, text, fault) {
+    if let Ok(lines) = told(rt.alloc(), &sources, false, text, fault) {
         let mut errors = rt.stderr();
         let _ = errors.write_all(lines.as_slice());
         let _ = errors.flush();

@@ -313,7 +313,7 @@ fn status_in<T: Threads + Wait + Clock + Sync>(
             ..
         } => status_of_diff(rt, choices, zone, objects, changed, json),
         Request::Why { objects, asked, .. } => status_of_why(rt, choices, zone, objects, asked),
-        Request::Check { asked, .. } => status_of_check(rt, zone, has_zone, asked),
+        Request::Check { asked, .. } => status_of_check(rt, choices, zone, has_zone, asked),
         Request::Run {
             objects,
             settings,

@@ -34,10 +34,14 @@ is_read kind name = list_any (bytes_eq name) (read_here kind)
 abbrev pub is_passed_over : BlockKind → List ℕ → Bool
 is_passed_over kind name = list_any (bytes_eq name) (passed_over kind)
 
+-- whether no text has it: it has a space, as no name but that of a line of days
+abbrev pub is_made : List ℕ → Bool
+is_made name = list_any (λ b. b == 32) name
+
 -- whether blocks of the type have it
 abbrev pub is_known : BlockKind → List ℕ → Bool
-is_known kind name =
-    is_read kind name || is_passed_over kind name || is_custom name || is_of_days kind name
+is_known kind name = is_read kind name || is_passed_over kind name || is_custom name || is_of_days kind name
+    || (not (is_period kind) && is_made name)
 
 -- ---- which lines
 

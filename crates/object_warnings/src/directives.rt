@@ -3,7 +3,7 @@
 ghost use Rattle.std.specs.Prelude.{◌≡◌, ◌++◌, ◌==◌, IfOk, OnOk};
 ghost use Rattle.std.specs.List.{before_first, list_any, position};
 ghost use Rattle.std.specs.Str.{bytes_eq};
-ghost use Rattle.object_warnings.specs.Directives.{firsts, is_custom, is_known, is_of_days, is_passed_over, is_read};
+ghost use Rattle.object_warnings.specs.Directives.{firsts, is_custom, is_known, is_made, is_of_days, is_passed_over, is_read};
 ghost use Rattle.object_warnings.specs.Directives.{lines_at, lines_where, passes, passes_at};
 
 use crate::lines::{Line, Test, directive_count, push_line};
@@ -70,11 +70,22 @@ fn is_passed_over(kind: BlockKind, name: &[u8]) -> bool
     is_among(name, passed_over(kind))
 }
 
+/// Whether no text has a directive of the name: it has a space, as no name but that of a line of days.
+fn is_made(name: &[u8]) -> bool
+    ensures { result ≡ is_made name.now }
+{
+    name.iter().any(|byte| *byte == b' ')
+}
+
 /// Whether blocks of the type have a directive of the name.
 fn is_known(kind: BlockKind, name: &[u8]) -> bool
     ensures { result ≡ is_known kind name.now }
 {
-    is_read(kind, name) || is_passed_over(kind, name) || is_custom(name) || is_of_days(kind, name)
+    is_read(kind, name)
+        || is_passed_over(kind, name)
+        || is_custom(name)
+        || is_of_days(kind, name)
+        || (!is_period(kind) && is_made(name))
 }
 
 /// Whether the directive of a block of the type passes.

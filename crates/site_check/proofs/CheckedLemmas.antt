@@ -1,5 +1,5 @@
 -- What a check finds, by what loading answers.
-use Rattle.std.proofs.Common.{◌≡◌, ℕ, ◌<◌, Bool, true, false, cond, ◌&&◌, List, [], ◌∷◌, ◌++◌, Option, Some, None, Result, Ok, Err, refl, sym, ap, subst, ◌∙◌, ◌⊎◌, inl, inr, ⊎_elim, arith}
+use Rattle.std.proofs.Common.{◌≡◌, ℕ, ◌<◌, Bool, true, false, cond, ◌&&◌, List, [], ◌∷◌, ◌++◌, Option, Some, None, refl, sym, ap, subst, ◌∙◌, ◌⊎◌, inl, inr, ⊎_elim, arith}
 use Rattle.std.specs.Prelude.{find, slice_get, ◌==◌}
 use Rattle.std.specs.Option.{option_map_or}
 use Rattle.std.specs.Str.{bytes_eq}
@@ -14,36 +14,27 @@ use Rattle.object_faults.specs.LoadFaults.{fault_name}
 use Rattle.object_faults.specs.declared.load_fault.BlockFault.{BlockFault}
 use Rattle.object_faults.specs.declared.load_fault.LoadFault.{LoadFault}
 use Rattle.object_faults.specs.declared.load_fault.LoadFault.TheVariants as load
-use Rattle.object_reader.specs.Blocks.{Gives}
 use Rattle.object_reader.specs.claims.Grammar.{IsObjectText}
 use Rattle.object_reader.specs.declared.block.Block.{Block}
 use Rattle.object_reader.specs.declared.fault.LineFault.{LineFault}
-use Rattle.object_reader.specs.declared.fault.ReadFault.{ReadFault}
 use Rattle.object_resolve.specs.claims.Resolve.{IsRefusal}
-use Rattle.object_resolve.specs.claims.Text.{IsTextFault, IsTextOf}
+use Rattle.object_resolve.specs.claims.Text.{IsTextFault, IsTextOf, blocks_read, text_read}
 use Rattle.site_check.specs.Checked.{AreRefused, IsChecked, IsToldAlone}
 use Rattle.site_check.specs.Faults.{AreTold, is_answer}
+use Rattle.site_check.specs.Read.{AreBlocksOf}
 use Rattle.site_check.specs.Warnings.{IsOfFaulty, IsOfText}
 use Rattle.site_check.specs.declared.options.Form.{Form}
 
 -- ---- the text's blocks
 
--- the blocks that were read are those of the text
-read-same : (r : Result (List Block) ReadFault) (blocks others : List Block) → r ≡ Ok blocks → Gives r (Ok others) → others ≡ blocks
-read-same r blocks others is gives = ap blocks_in (subst (λ given. Gives given (Ok others)) is gives)
-  where
-    blocks_in : Result (List Block) ReadFault → List Block
-    blocks_in (Ok bs) = bs
-    blocks_in (Err fault) = others
-
 -- what is found of blocks that were read
-pub blocks-refused : (form : Form) (text : List ℕ) (line : ℕ) (fault : BlockFault) (r : Result (List Block) ReadFault) (blocks : List Block) (told : List LoadFault) (warnings : ℕ) → r ≡ Ok blocks
-    → ((others : List Block) → IsObjectText text others → Gives r (Ok others)) → IsObjectText text blocks → IsTextFault false text (load.Block line fault)
+pub blocks-refused : (form : Form) (text : List ℕ) (line : ℕ) (fault : BlockFault) (blocks : List Block) (told : List LoadFault) (warnings : ℕ) → AreBlocksOf form.choices.text text blocks
+    → ((raw : List Block) → IsObjectText (text_read form.choices.text text) raw → blocks ≡ blocks_read form.choices.text raw) → IsTextFault form.choices.text text (load.Block line fault)
     → (IsRefusal blocks line fault → AreTold blocks (load.Block line fault) told) → IsOfFaulty form blocks warnings → AreRefused form text (load.Block line fault) told warnings
-blocks-refused form text line fault r blocks told warnings is only here (others, whole, refusal) told_if warned = record {
+blocks-refused form text line fault blocks told warnings here only (raw, whole, refusal) told_if warned = record {
   blocks = blocks;
   text_is = here;
-  told_are = told_if (subst (λ (bs : List Block). IsRefusal bs line fault) (read-same r blocks others is (only others whole)) refusal);
+  told_are = told_if (subst (λ (bs : List Block). IsRefusal bs line fault) (sym (only raw whole)) refusal);
   warned = warned;
 }
 
@@ -61,40 +52,40 @@ pub memory-lies : (given fault : LoadFault) → given ≡ fault → is_memory fa
 memory-lies given fault is other memory = false≢true (sym other ∙ ap is_memory (sym is ∙ memory))
 
 -- a fault of the text is another than that memory ran out
-pub text-fault : (text : List ℕ) (fault : LoadFault) → is_memory fault ≡ false → (fault ≡ load.NoMemory) ⊎ IsTextFault false text fault → IsTextFault false text fault
-text-fault text fault other (inl memory) = absurd (false≢true (sym other ∙ ap is_memory memory))
-text-fault text fault other (inr is) = is
+pub text-fault : (nagios : Bool) (text : List ℕ) (fault : LoadFault) → is_memory fault ≡ false → (fault ≡ load.NoMemory) ⊎ IsTextFault nagios text fault → IsTextFault nagios text fault
+text-fault nagios text fault other (inl memory) = absurd (false≢true (sym other ∙ ap is_memory memory))
+text-fault nagios text fault other (inr is) = is
 
-pub large-checked : (form : Form) (text : List ℕ) (told : List LoadFault) (warnings : ℕ) → (load.TooLarge ≡ load.NoMemory) ⊎ IsTextFault false text load.TooLarge → told ≡ load.TooLarge ∷ [] → warnings ≡ 0
+pub large-checked : (form : Form) (text : List ℕ) (told : List LoadFault) (warnings : ℕ) → (load.TooLarge ≡ load.NoMemory) ⊎ IsTextFault form.choices.text text load.TooLarge → told ≡ load.TooLarge ∷ [] → warnings ≡ 0
     → IsChecked form text told warnings
 large-checked form text told warnings answered one none = inr (record {
   first = load.TooLarge;
-  answered = text-fault text load.TooLarge refl answered;
+  answered = text-fault form.choices.text text load.TooLarge refl answered;
   begins = ap (λ (xs : List LoadFault). slice_get xs 0) one;
   all = (one, none);
 })
 
-pub line-checked : (form : Form) (text : List ℕ) (line : ℕ) (fault : LineFault) (told : List LoadFault) (warnings : ℕ) → (load.Line line fault ≡ load.NoMemory) ⊎ IsTextFault false text (load.Line line fault)
+pub line-checked : (form : Form) (text : List ℕ) (line : ℕ) (fault : LineFault) (told : List LoadFault) (warnings : ℕ) → (load.Line line fault ≡ load.NoMemory) ⊎ IsTextFault form.choices.text text (load.Line line fault)
     → told ≡ load.Line line fault ∷ [] → warnings ≡ 0 → IsChecked form text told warnings
 line-checked form text line fault told warnings answered one none = inr (record {
   first = load.Line line fault;
-  answered = text-fault text (load.Line line fault) refl answered;
+  answered = text-fault form.choices.text text (load.Line line fault) refl answered;
   begins = ap (λ (xs : List LoadFault). slice_get xs 0) one;
   all = (one, none);
 })
 
-pub block-checked : (form : Form) (text : List ℕ) (line : ℕ) (fault : BlockFault) (told : List LoadFault) (warnings : ℕ) → (load.Block line fault ≡ load.NoMemory) ⊎ IsTextFault false text (load.Block line fault)
+pub block-checked : (form : Form) (text : List ℕ) (line : ℕ) (fault : BlockFault) (told : List LoadFault) (warnings : ℕ) → (load.Block line fault ≡ load.NoMemory) ⊎ IsTextFault form.choices.text text (load.Block line fault)
     → AreRefused form text (load.Block line fault) told warnings → IsChecked form text told warnings
 block-checked form text line fault told warnings answered refused = inr (record {
   first = load.Block line fault;
-  answered = text-fault text (load.Block line fault) refl answered;
+  answered = text-fault form.choices.text text (load.Block line fault) refl answered;
   begins = (refused.told_are).begins;
   all = refused;
 })
 
-pub sound-checked : (form : Form) (text : List ℕ) (config : Config) (told : List LoadFault) (warnings : ℕ) → IsTextOf false config text → told ≡ [] → IsOfText form text config warnings
+pub sound-checked : (form : Form) (text : List ℕ) (config : Config) (told : List LoadFault) (warnings : ℕ) → IsTextOf form.choices.text config text → config.choices ≡ form.choices → told ≡ [] → IsOfText form text config warnings
     → IsChecked form text told warnings
-sound-checked form text config told warnings gives none warned = inl (record { config = config; gives = gives; none = none; warned = warned })
+sound-checked form text config told warnings gives by none warned = inl (record { config = config; gives = gives; by = by; none = none; warned = warned })
 
 -- ---- one fault alone
 

@@ -1,5 +1,5 @@
 -- What a check of object text finds.
-use Rattle.std.specs.Prelude.{◌≡◌, ℕ, ◌⊎◌, false, List, [], ◌∷◌, ◌++◌, Some, slice_get}
+use Rattle.std.specs.Prelude.{◌≡◌, ℕ, ◌⊎◌, Bool, List, [], ◌∷◌, ◌++◌, Some, slice_get}
 use Rattle.due_model.specs.declared.config.Config.{Config}
 use Rattle.faults_told.specs.Forms.{place_text}
 use Rattle.faults_told.specs.declared.located.Source.{Source}
@@ -7,17 +7,18 @@ use Rattle.object_faults.specs.LoadFaults.{fault_name}
 use Rattle.object_faults.specs.declared.load_fault.LoadFault.{LoadFault}
 use Rattle.object_faults.specs.declared.load_fault.LoadFault.TheVariants as load
 use Rattle.object_reader.specs.Fault as reader
-use Rattle.object_reader.specs.claims.Grammar.{IsObjectText}
 use Rattle.object_reader.specs.declared.block.Block.{Block}
 use Rattle.object_resolve.specs.claims.Text.{IsTextFault, IsTextOf}
 use Rattle.site_check.specs.Faults.{AreTold}
+use Rattle.site_check.specs.Read.{AreBlocksOf}
 use Rattle.site_check.specs.Warnings.{IsOfFaulty, IsOfText}
 use Rattle.site_check.specs.declared.options.Form.{Form}
 
 -- a text with a configuration: no fault, and its warnings
 pub record IsSound (form : Form) (text : List ℕ) (told : List LoadFault) (warnings : ℕ) : Type 0 where
   pub config : Config
-  pub gives : IsTextOf false config text
+  pub gives : IsTextOf form.choices.text config text
+  pub by : config.choices ≡ form.choices
   pub none : told ≡ []
   pub warned : IsOfText form text config warnings
 
@@ -25,7 +26,7 @@ pub record IsSound (form : Form) (text : List ℕ) (told : List LoadFault) (warn
 pub record AreRefused (form : Form) (text : List ℕ) (first : LoadFault) (told : List LoadFault)
     (warnings : ℕ) : Type 0 where
   pub blocks : List Block
-  pub text_is : IsObjectText text blocks
+  pub text_is : AreBlocksOf form.choices.text text blocks
   pub told_are : AreTold blocks first told
   pub warned : IsOfFaulty form blocks warnings
 
@@ -39,7 +40,7 @@ IsToldOf form text first told warnings = (told ≡ first ∷ []) × (warnings �
 -- a text with a fault: the first that is told is the one that loading answers
 pub record IsFaulty (form : Form) (text : List ℕ) (told : List LoadFault) (warnings : ℕ) : Type 0 where
   pub first : LoadFault
-  pub answered : IsTextFault false text first
+  pub answered : IsTextFault form.choices.text text first
   pub begins : slice_get told 0 ≡ Some first
   pub all : IsToldOf form text first told warnings
 

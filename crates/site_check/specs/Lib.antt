@@ -1,3 +1,4 @@
 pub mod Faults
+pub mod Read
 pub mod Warnings
 pub mod Checked

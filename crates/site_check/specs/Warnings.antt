@@ -10,7 +10,6 @@ use Rattle.object_inheritance.specs.claims.Faults as templates
 use Rattle.object_names.specs.claims.Named.{block_kind}
 use Rattle.object_names.specs.declared.named.NamedKind.{NamedKind}
 use Rattle.object_names.specs.declared.named.NamedKind.TheVariants as named
-use Rattle.object_reader.specs.claims.Grammar.{IsObjectText}
 use Rattle.object_reader.specs.declared.block.Block.{Block}
 use Rattle.object_reader.specs.declared.block.BlockKind.{BlockKind}
 use Rattle.object_reader.specs.declared.block.BlockKind.TheVariants as blocks_of
@@ -29,6 +28,7 @@ use Rattle.object_warnings.specs.declared.lines.Line.{Line}
 use Rattle.object_warnings.specs.declared.lines.Test.TheVariants.{Unknown, PassedOver}
 use Rattle.object_warnings.specs.declared.warning.Warning.{Warning}
 use Rattle.object_warnings.specs.declared.warning.Warning.TheVariants.{UnknownDirective, WithoutEffect, NobodyTold, NoHours, NeverHours, DeadEscalation, NoCriteria, Unused, Overridden, NoZone, MissingOption}
+use Rattle.site_check.specs.Read.{AreBlocksOf}
 use Rattle.site_check.specs.declared.options.Form.{Form}
 
 -- whether warnings of the name are left out
@@ -159,5 +159,5 @@ pub record IsOfConfig (form : Form) (blocks : List Block) (c : Config) (count : 
 -- those of a text that has it
 pub record IsOfText (form : Form) (text : List ℕ) (c : Config) (count : ℕ) : Type 0 where
   pub blocks : List Block
-  pub text_is : IsObjectText text blocks
+  pub text_is : AreBlocksOf form.choices.text text blocks
   pub is : IsOfConfig form blocks c count

@@ -1,6 +1,6 @@
 //! The check of object text: all faults of the first pass that finds any, told one after another, and then the warnings.
 
-ghost use Rattle.std.specs.Prelude.{◌≡◌, ◌<◌, ◌⊎◌, ◌∷◌, [], false, IfErr, IfOk};
+ghost use Rattle.std.specs.Prelude.{◌≡◌, ◌<◌, ◌∷◌, [], IfOk};
 ghost use Rattle.due_model.specs.claims.Accepted.{IsAccepted};
 ghost use Rattle.due_model.specs.declared.config.Config.{Config};
 ghost use Rattle.object_faults.specs.declared.load_fault.LoadFault.TheVariants as load;
@@ -14,8 +14,9 @@ use crate::all_faults::{answer, told_blocks};
 use crate::ends::{push_end, push_some, words_of};
 use crate::lines::{line_at, push_line_fault, push_plain_line_fault};
 pub use crate::options::Form;
+use crate::taken::blocks_of;
 use crate::warned_forms::{push_of_blocks, push_of_text};
-use due_model::config::{Choices, Config};
+use due_model::config::Config;
 use faults_told::forms::push_json;
 use faults_told::located::Source;
 use faults_told::telling::Telling;
@@ -23,7 +24,6 @@ use faults_told::text_forms::{push, push_telling};
 use object_faults::load_fault::{BlockFault, LoadFault};
 use object_reader::block::Block;
 use object_reader::fault::LineFault;
-use object_reader::reading::read;
 use object_resolve::load;
 use std::alloc::{AllocError, Global};
 
@@ -175,12 +175,12 @@ fn refused_text(
     line: u64,
     fault: BlockFault,
 ) -> Result<Checked, AllocError>
-    requires { IsTextFault false text.now.items (load.Block line fault) }
+    requires { IsTextFault form.choices.text text.now.items (load.Block line fault) }
     ensures some { IfOk result (λ checked. 0 < checked.faults) }
     ensures refused { IfOk result (λ checked. AreRefused form.entry text.now.items (load.Block line fault)
         checked.told.items checked.warnings) }
 {
-    match read(alloc, text) {
+    match blocks_of(alloc, form.choices.text, text) {
         Ok(blocks) => {
             let checked = refused(alloc, form, blocks.as_slice(), line, fault)?;
             Ok(checked)
@@ -229,23 +229,25 @@ fn told_line(
 fn told_text(
     alloc: Global,
     sources: &[Source<'_>],
+    nagios: bool,
     text: &[u8],
     line: u64,
     fault: BlockFault,
 ) -> Result<Vec<u8>, AllocError>
     ensures { IfOk result (λ lines. IsToldAlone sources.now (load.Block line fault) lines.items) }
 {
-    match read(alloc, text) {
+    match blocks_of(alloc, nagios, text) {
         Ok(blocks) => told_block(alloc, sources, blocks.as_slice(), line, fault),
         Err(_) => Ok(Vec::new(alloc)),
     }
 }
 
 /// The lines that tell the one fault that loading object text answers, as `check` tells it: the first begins with a place and
-/// the fault's name. Empty where nothing more is to be said.
+/// the fault's name. The text is read as Nagios does, or not, as it was loaded. Empty where nothing more is to be said.
 pub fn told(
     alloc: Global,
     sources: &[Source<'_>],
+    nagios: bool,
     text: &[u8],
     fault: LoadFault,
 ) -> Result<Vec<u8>, AllocError>
@@ -255,19 +257,8 @@ pub fn told(
         LoadFault::NoMemory => Err(AllocError),
         LoadFault::TooLarge => Ok(Vec::new(alloc)),
         LoadFault::Line { line, fault } => told_line(alloc, sources, text, line, fault),
-        LoadFault::Block { line, fault } => told_text(alloc, sources, text, line, fault),
+        LoadFault::Block { line, fault } => told_text(alloc, sources, nagios, text, line, fault),
     }
-}
-
-/// The configuration of a text, or its fault, by this project's rules.
-fn loaded(alloc: Global, text: Vec<u8>) -> Result<Config, LoadFault>
-    ensures config { IfOk result (λ config. IsTextOf false config text.items) }
-    ensures accepted { IfOk result (λ config. IsAccepted config) }
-    ensures fault { IfErr result (λ fault. (fault ≡ load.NoMemory) ⊎ IsTextFault false text.items fault) }
-    ensures only { (config : Config) → IsTextOf false config text.items
-        → IfErr result (λ fault. fault ≡ load.NoMemory) }
-{
-    load(alloc, Choices::own(), text)
 }
 
 /// Checks object text: tells all faults of the first pass that finds any, or that there is none, and then the warnings: of a text
@@ -276,16 +267,17 @@ fn loaded(alloc: Global, text: Vec<u8>) -> Result<Config, LoadFault>
 pub fn check(alloc: Global, form: Form<'_, '_>, text: Vec<u8>) -> Result<Checked, AllocError>
     // A text of which no fault is told has a configuration.
     ensures sound { IfOk result (λ checked. checked.faults ≡ 0
-        → (config : Config) × IsTextOf false config text.items) }
+        → (config : Config) × IsTextOf form.entry.choices.text config text.items
+        × (config.choices ≡ form.entry.choices)) }
     // Of a text that has one none is told.
-    ensures faulty { (config : Config) → IsTextOf false config text.items
+    ensures faulty { (config : Config) → IsTextOf form.entry.choices.text config text.items
         → IfOk result (λ checked. checked.faults ≡ 0) }
     // All faults of the pass that finds the first are told, the one that loading answers before all others, and the warnings
     // are counted, less those that are left out.
     ensures all { IfOk result (λ checked. IsChecked form.entry text.items checked.told.items checked.warnings) }
 {
     let kept = Vec::from_slice(alloc, text.as_slice())?;
-    match loaded(alloc, text) {
+    match load(alloc, form.choices, text) {
         Ok(config) => {
             let free = sound(alloc, form, kept.as_slice(), &config)?;
             Ok(free)

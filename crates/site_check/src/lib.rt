@@ -9,6 +9,7 @@ mod lines;
 mod names;
 mod options;
 mod origins;
+mod taken;
 mod warned;
 mod warned_config;
 mod warned_forms;

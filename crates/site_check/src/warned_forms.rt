@@ -5,6 +5,7 @@ ghost use Rattle.due_model.specs.claims.Accepted.{IsAccepted};
 ghost use Rattle.site_check.specs.Warnings.{IsIfFree, IsOfConfig, IsOfFaulty, IsOfText};
 
 use crate::options::Form;
+use crate::taken::blocks_of;
 use crate::warned::{Warned, add_of_blocks, add_of_templates};
 use crate::warned_config::warned_of_config;
 use due_model::config::Config;
@@ -14,7 +15,6 @@ use faults_told::telling::kind_word;
 use faults_told::text_forms::{push, push_holder, push_name, push_number, push_place, push_value};
 use object_inheritance::templates::{InheritanceFault, Templates};
 use object_reader::block::Block;
-use object_reader::reading::read;
 use object_warnings::hours::Span;
 use object_warnings::warning::Warning;
 use std::alloc::{AllocError, Global};
@@ -276,7 +276,7 @@ pub(crate) fn push_of_text(
     requires { IsAccepted config.now }
     ensures { IfOk result (IsOfText form.entry object_text.now config.now) }
 {
-    match read(alloc, object_text) {
+    match blocks_of(alloc, form.choices.text, object_text) {
         Ok(blocks) => {
             let count = push_of_config(alloc, text, form, blocks.as_slice(), config)?;
             Ok(count)
