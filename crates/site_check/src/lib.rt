@@ -15,6 +15,3 @@ mod warned_config;
 mod warned_forms;
 
 pub use checking::{Checked, Form, check, told};
-
-#[cfg(test)]
-mod tests;

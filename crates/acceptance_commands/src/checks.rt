@@ -1,7 +1,10 @@
-use crate::{Checked, Form, check, told};
+//! The check of object text, and the lines that tell one fault.
+
+use due_model::config::Choices;
 use due_model::zone::Zone;
 use faults_told::located::Source;
 use object_faults::load_fault::{BlockFault, LoadFault};
+use site_check::{Checked, Form, check, told};
 use std::alloc::{AllocError, Global};
 
 /// A template with an interval that isn't a number, and two hosts that use it.
@@ -64,13 +67,19 @@ const LINES: &[u8] = b"a.cfg:1: UnknownName: contacts: no contact \"bob\"
 ";
 
 /// Checks the text without the warnings of this name.
-fn checked(alloc: Global, text: &[u8], left_out: &str) -> Result<Checked, AllocError> {
+fn checked(
+    alloc: Global,
+    choices: Choices,
+    text: &[u8],
+    left_out: &str,
+) -> Result<Checked, AllocError> {
     let sources = [Source {
         name: "a.cfg",
         before: 0,
     }];
     let allowed = [left_out];
     let form = Form {
+        choices,
         sources: &sources,
         json: false,
         allowed: &allowed,
@@ -83,7 +92,7 @@ fn checked(alloc: Global, text: &[u8], left_out: &str) -> Result<Checked, AllocE
 
 #[test]
 fn a_value_of_a_template_is_told_once(rt: HostRuntime) -> Result<(), AllocError> {
-    let found = checked(rt.alloc(), TEXT, "NobodyTold")?;
+    let found = checked(rt.alloc(), Choices::own(), TEXT, "NobodyTold")?;
     assert!(rt; found.faults == 1);
     assert!(rt; found.report.as_slice() == TOLD);
     assert!(rt; found.told.as_slice() == FAULTS.as_slice());
@@ -92,10 +101,10 @@ fn a_value_of_a_template_is_told_once(rt: HostRuntime) -> Result<(), AllocError>
 
 #[test]
 fn a_warning_is_counted_and_left_out(rt: HostRuntime) -> Result<(), AllocError> {
-    let told = checked(rt.alloc(), SOUND, "NoHours")?;
+    let told = checked(rt.alloc(), Choices::own(), SOUND, "NoHours")?;
     assert!(rt; told.report.as_slice() == WARNED);
     assert!(rt; told.warnings == 1);
-    let less = checked(rt.alloc(), SOUND, "NobodyTold")?;
+    let less = checked(rt.alloc(), Choices::own(), SOUND, "NobodyTold")?;
     assert!(rt; less.warnings == 0);
     Ok(())
 }
@@ -110,7 +119,28 @@ fn the_answered_fault_is_told_alone(rt: HostRuntime) -> Result<(), AllocError> {
         line: 1,
         fault: BlockFault::UnknownName,
     };
-    let lines = told(rt.alloc(), &sources, UNKNOWN, fault)?;
+    let lines = told(rt.alloc(), &sources, false, UNKNOWN, fault)?;
     assert!(rt; lines.as_slice() == LINES);
+    Ok(())
+}
+
+/// A volatile service, by a spelling that Nagios takes beside the standard one.
+const SPELT: &[u8] = b"define host{
+ host_name a
+}
+define service{
+ hosts a
+ description http
+ is_volatile 1
+}
+";
+
+#[test]
+fn a_text_is_read_as_nagios_does(rt: HostRuntime) -> Result<(), AllocError> {
+    let own = checked(rt.alloc(), Choices::own(), SPELT, "NobodyTold")?;
+    assert!(rt; own.faults > 0);
+    let read = checked(rt.alloc(), Choices::nagios(), SPELT, "NobodyTold")?;
+    assert!(rt; read.faults == 0);
+    assert!(rt; read.warnings == 0);
     Ok(())
 }
