@@ -31,7 +31,7 @@ use Rattle.command_line.specs.declared.words.Request.TheVariants.{Replay, Trace,
 
 -- the name of the command that is asked for
 abbrev pub request_name : Request → List ℕ
-request_name (Replay objects zone shown) = codes "replay"
+request_name (Replay objects zone shown compare) = codes "replay"
 request_name (Trace settings standbys zone) = codes "trace"
 request_name (Run objects settings zone channels times quiet ahead log feed) = codes "run"
 request_name (Who objects zone asked) = codes "who"
@@ -41,7 +41,7 @@ request_name (Check zone asked) = codes "check"
 
 -- in a trace fewer channels stand by than a lane may have
 abbrev pub AreSettingsFit : Request → Type 0
-AreSettingsFit (Replay objects zone shown) = Unit {0}
+AreSettingsFit (Replay objects zone shown compare) = Unit {0}
 AreSettingsFit (Trace settings standbys zone) = standbys < max_channels
 AreSettingsFit (Run objects settings zone channels times quiet ahead log feed) = Unit {0}
 AreSettingsFit (Who objects zone asked) = Unit {0}
@@ -166,9 +166,11 @@ RunLacks options = (deciders : ℕ) → is_some (first_value options (codes "obj
 -- its report goes, where the feed is read from, and the channel words; of `who` the file and what is supposed; of `diff` the two files,
 -- and whether lines are to be JSON; and of each the zone.
 abbrev pub IsRequestOf : Found → Request → Type 0
-IsRequestOf options (Replay objects zone shown) =
+IsRequestOf options (Replay objects zone shown compare) =
     (option_copied objects ≡ first_value options (codes "objects")) × IsZoneOf options zone
     × IsShownOf options shown
+    × (option_map (λ texts. map (λ text. text.now) texts.now) compare
+    ≡ option_map raw_values (matched_of options (codes "compare")))
 IsRequestOf options (Trace settings standbys zone) =
     HoldsNumber options (codes "deciders") settings.deciders
     × HoldsNumber options (codes "standbys") standbys
@@ -205,7 +207,7 @@ IsMetWith matches name so = (options : Found)
 
 -- what it says of the zone
 abbrev pub request_zone : Request → ZoneWords
-request_zone (Replay objects zone shown) = zone
+request_zone (Replay objects zone shown compare) = zone
 request_zone (Trace settings standbys zone) = zone
 request_zone (Run objects settings zone channels times quiet ahead log feed) = zone
 request_zone (Who objects zone asked) = zone
@@ -220,7 +222,7 @@ fault_of feed ahead =
     else state_fault feed.state ahead
 
 abbrev pub feed_fault : Request → Option FeedFault
-feed_fault (Replay objects zone shown) = None
+feed_fault (Replay objects zone shown compare) = None
 feed_fault (Trace settings standbys zone) = None
 feed_fault (Run objects settings zone channels times quiet ahead log feed) = fault_of feed ahead
 feed_fault (Who objects zone asked) = None
@@ -247,7 +249,8 @@ abbrev pub has_two_forms : ShownWords → Bool
 has_two_forms words = words.json && words.pretty
 
 abbrev pub asks_two_forms : Request → Bool
-asks_two_forms (Replay objects zone shown) = has_two_forms shown
+asks_two_forms (Replay objects zone shown compare) =
+    has_two_forms shown || (is_some compare && (not (is_plain shown) || is_some shown.picture))
 asks_two_forms (Trace settings standbys zone) = false
 asks_two_forms (Run objects settings zone channels times quiet ahead log feed) = false
 asks_two_forms (Who objects zone asked) = false
@@ -265,7 +268,7 @@ has_bad_letters words =
     option_map_or (λ letters. not (list_all is_line_letter letters)) (option_copied words.only) false
 
 abbrev pub asks_bad_letters : Request → Bool
-asks_bad_letters (Replay objects zone shown) = has_bad_letters shown
+asks_bad_letters (Replay objects zone shown compare) = has_bad_letters shown
 asks_bad_letters (Trace settings standbys zone) = false
 asks_bad_letters (Run objects settings zone channels times quiet ahead log feed) = false
 asks_bad_letters (Who objects zone asked) = false
@@ -307,11 +310,11 @@ abbrev pub with_shown : App → App
 with_shown app =
     with_rule (with_rule (with_picks app) (flag_option (codes "json"))) (flag_option (codes "pretty"))
 
--- `replay` has these, the file of the object text, and that of a picture
+-- `replay` has these, the file of the object text, that of a picture, and those of logs
 abbrev pub replay_words : App
 replay_words =
-    with_site (with_rule (with_shown (with_rule (new_app (codes "replay")) (text_option (codes "objects"))))
-    (text_option (codes "picture")))
+    with_site (with_rule (with_rule (with_shown (with_rule (new_app (codes "replay")) (text_option (codes "objects"))))
+    (text_option (codes "picture"))) (text_options (codes "compare")))
 
 -- two say how many notices a lane's queue holds, and how many tries a message has
 abbrev pub with_lane_options : App → App

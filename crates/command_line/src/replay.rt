@@ -1,14 +1,14 @@
 //! The words of `replay`.
 
-ghost use Rattle.std.specs.Prelude.{◌≡◌, codes, IfOk};
+ghost use Rattle.std.specs.Prelude.{◌≡◌, codes, false, IfOk};
 ghost use Rattle.clap.specs.Matches.{found_of};
-ghost use Rattle.clap.specs.Words.{app_of};
+ghost use Rattle.clap.specs.Words.{app_of, rule_of};
 ghost use Rattle.command_line.specs.Words.{IsRequestOf, IsShownOf, replay_words, request_name, with_picks};
-ghost use Rattle.command_line.specs.Words.{with_shown};
+ghost use Rattle.command_line.specs.Words.{text_options, with_shown};
 
 use crate::options::{flag_option, text_option, with_site, zone_words};
 use crate::words::{Request, ShownWords};
-use clap::{ArgMatches, Command};
+use clap::{Arg, ArgAction, ArgMatches, Command};
 use std::alloc::{AllocError, Global};
 
 /// What `notify-run replay --help` says.
@@ -34,7 +34,11 @@ in a row the first line, and how often more before the object's next line or the
 
 --picture FILE.svg draws the whole feed beside that: one row an object, time to the
 right, its state as colour, downtimes and acknowledgements as bands, a filled mark for
-each notice, by contact, and a hollow one for each suppression.";
+each notice, by contact, and a hollow one for each suppression.
+
+--compare nagios.log writes in place of the report what the log says was sent and the
+replay doesn't send, after a minus, and the reverse, after a plus; and how many notices
+are the same.";
 
 /// The command `replay` and its options.
 pub(crate) fn replay_command<'a>(alloc: Global) -> Result<Command<'a>, AllocError>
@@ -56,8 +60,24 @@ pub(crate) fn replay_command<'a>(alloc: Global) -> Result<Command<'a>, AllocErro
         "FILE",
         "A file for a picture of the feed, as SVG: one row an object, time to the right",
     );
-    let with_shown = with_shown(alloc, command)?.arg(picture)?;
+    let with_shown = with_shown(alloc, command)?
+        .arg(picture)?
+        .arg(compare_option(alloc))?;
     with_site(alloc, with_shown)
+}
+
+/// The option that names a log to compare with, any number of times.
+fn compare_option<'a>(alloc: Global) -> Arg<'a>
+    ensures rule { rule_of result ≡ text_options (codes "compare") }
+    ensures local { result.global ≡ false }
+{
+    text_option(
+        alloc,
+        "compare",
+        "LOG",
+        "A log of Nagios: in place of the report what it says was sent and isn't, and the reverse; may be given again",
+    )
+    .action(ArgAction::Append)
 }
 
 /// Adds the options that say which lines of a report are wanted.
@@ -128,5 +148,6 @@ pub(crate) fn replay_request<'m, 'a>(options: &'m ArgMatches<'a>) -> Request<'m,
         objects: options.get_str("objects"),
         zone: zone_words(options),
         shown: shown_words(options),
+        compare: options.get_strs("compare"),
     }
 }

@@ -1,6 +1,6 @@
 //! What a command line says.
 
-ghost use Rattle.std.specs.Prelude.{◌≡◌};
+ghost use Rattle.std.specs.Prelude.{◌≡◌, ◌||◌, is_some, not};
 ghost use Rattle.std.specs.List.{list_all};
 ghost use Rattle.std.specs.Option.{option_copied};
 ghost use Rattle.command_line.specs.Words.{has_bad_letters, asks_bad_letters, asks_two_forms, has_two_forms};
@@ -67,6 +67,13 @@ impl ShownWords<'_> {
     {
         let is_part = self.only.is_some() || self.object.is_some() || self.contact.is_some();
         !is_part && !self.json && !self.pretty
+    }
+
+    /// Whether it isn't the report as it is, or there is a picture.
+    fn has_form(self) -> bool
+        ensures { result ≡ (not (is_plain self.entry) || is_some self.entry.picture) }
+    {
+        !self.is_plain() || self.picture.is_some()
     }
 
     /// Whether two forms of its lines are asked for.
@@ -159,6 +166,8 @@ pub enum Request<'m, 'a> {
         objects: Option<&'a str>,
         zone: ZoneWords<'m, 'a>,
         shown: ShownWords<'a>,
+        /// The files of the logs with which it is compared, in order, if there are some.
+        compare: Option<&'m [&'a str]>,
     },
     /// A trace.
     Trace {
@@ -254,12 +263,14 @@ impl<'m, 'a> Request<'m, 'a> {
         }
     }
 
-    /// Whether it asks for two forms of a report's lines.
+    /// Whether it asks for two forms of a report, as lines of two forms, or a comparison beside lines that are picked.
     pub fn asks_two_forms(self) -> bool
         ensures { result ≡ asks_two_forms self.entry }
     {
         match self {
-            Request::Replay { shown, .. } => shown.has_two_forms(),
+            Request::Replay { shown, compare, .. } => {
+                shown.has_two_forms() || compare.is_some() && shown.has_form()
+            }
             _ => false,
         }
     }

@@ -14,6 +14,7 @@ ghost use Rattle.run_devices.specs.Fault.{run_status};
 ghost use Rattle.steps.specs.Settings.{max_channels};
 
 mod check;
+mod compare;
 mod diff;
 mod faults;
 mod feeds;
@@ -28,6 +29,7 @@ use choice_words::choices_of;
 use clap::error::ErrorKind;
 use command_line::{Request, ShownWords, ZoneWords, command, request_of};
 use command_output::{AnyWriter, CommandFault, Ending, exit_status};
+use compare::status_of_compare;
 use diff::status_of_diff;
 use due_model::config::Choices;
 use due_model::zone::Zone;
@@ -294,9 +296,17 @@ fn status_in<T: Threads + Wait + Clock + Sync>(
 {
     let has_zone = request.zone().is_given();
     match request {
-        Request::Replay { objects, shown, .. } => match shown.picture {
-            Some(path) => status_of_picture(rt, choices, zone, objects, shown, path),
-            None => status_of_replay(rt, objects, do_replay(rt, choices, zone, objects, shown)),
+        Request::Replay {
+            objects,
+            shown,
+            compare,
+            ..
+        } => match (compare, shown.picture) {
+            (Some(logs), _) => status_of_compare(rt, choices, zone, objects, logs),
+            (None, Some(path)) => status_of_picture(rt, choices, zone, objects, shown, path),
+            (None, None) => {
+                status_of_replay(rt, objects, do_replay(rt, choices, zone, objects, shown))
+            }
         },
         Request::Trace {
             settings,

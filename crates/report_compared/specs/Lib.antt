@@ -1,0 +1,3 @@
+pub mod Notices
+pub mod Teller
+pub mod Compared
