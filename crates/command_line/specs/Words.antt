@@ -59,7 +59,7 @@ pub record IsZoneOf (options : Found) (words : ZoneWords) : Type 0 where
       ≡ option_map raw_values (matched_of options (codes "choose"))
 
 -- the texts that they hold of which lines of a report are wanted, whether each is to be JSON, or for people, and of the picture's
--- file
+-- file and the logs
 pub record IsShownOf (options : Found) (words : ShownWords) : Type 0 where
   pub only : option_copied words.only ≡ first_value options (codes "only")
   pub object : option_copied words.object ≡ first_value options (codes "object")
@@ -67,6 +67,8 @@ pub record IsShownOf (options : Found) (words : ShownWords) : Type 0 where
   pub json : IsFlag options (codes "json") words.json
   pub pretty : IsFlag options (codes "pretty") words.pretty
   pub picture : option_copied words.picture ≡ first_value options (codes "picture")
+  pub logs : option_map (λ texts. map (λ text. text.now) texts.now) words.logs
+      ≡ option_map raw_values (matched_of options (codes "log"))
 
 -- An option holds the number: what is read of it is the number in decimal digits.
 abbrev pub HoldsNumber : Found → (name : List ℕ) → (number : ℕ) → Type 0
@@ -310,11 +312,11 @@ abbrev pub with_shown : App → App
 with_shown app =
     with_rule (with_rule (with_picks app) (flag_option (codes "json"))) (flag_option (codes "pretty"))
 
--- `replay` has these, the file of the object text, that of a picture, and those of logs
+-- `replay` has these, the file of the object text, that of a picture, the logs with which it is compared, and those that are its feed
 abbrev pub replay_words : App
 replay_words =
-    with_site (with_rule (with_rule (with_shown (with_rule (new_app (codes "replay")) (text_option (codes "objects"))))
-    (text_option (codes "picture"))) (text_options (codes "compare")))
+    with_site (with_rule (with_rule (with_rule (with_shown (with_rule (new_app (codes "replay")) (text_option (codes "objects"))))
+    (text_option (codes "picture"))) (text_options (codes "compare"))) (text_options (codes "log")))
 
 -- two say how many notices a lane's queue holds, and how many tries a message has
 abbrev pub with_lane_options : App → App

@@ -38,7 +38,10 @@ each notice, by contact, and a hollow one for each suppression.
 
 --compare nagios.log writes in place of the report what the log says was sent and the
 replay doesn't send, after a minus, and the reverse, after a plus; and how many notices
-are the same.";
+are the same.
+
+--log FILE reads a log of Nagios in place of the feed, and says on standard error which
+of its lines it doesn't read; given again, the logs are read one after another.";
 
 /// The command `replay` and its options.
 pub(crate) fn replay_command<'a>(alloc: Global) -> Result<Command<'a>, AllocError>
@@ -63,7 +66,22 @@ pub(crate) fn replay_command<'a>(alloc: Global) -> Result<Command<'a>, AllocErro
     let with_shown = with_shown(alloc, command)?
         .arg(picture)?
         .arg(compare_option(alloc))?;
-    with_site(alloc, with_shown)
+    let with_log = with_shown.arg(log_option(alloc))?;
+    with_site(alloc, with_log)
+}
+
+/// The option that names a log whose feed is read, any number of times.
+fn log_option<'a>(alloc: Global) -> Arg<'a>
+    ensures rule { rule_of result ≡ text_options (codes "log") }
+    ensures local { result.global ≡ false }
+{
+    text_option(
+        alloc,
+        "log",
+        "FILE",
+        "A log of Nagios that is read as the feed, with --objects; may be given again, in the order of time",
+    )
+    .action(ArgAction::Append)
 }
 
 /// The option that names a log to compare with, any number of times.
@@ -126,7 +144,7 @@ fn with_shown<'a>(alloc: Global, command: Command<'a>) -> Result<Command<'a>, Al
 }
 
 /// What the options of a command say of which lines of a report are wanted.
-fn shown_words<'a>(options: &ArgMatches<'a>) -> ShownWords<'a>
+fn shown_words<'m, 'a>(options: &'m ArgMatches<'a>) -> ShownWords<'m, 'a>
     ensures { IsShownOf (found_of options.now) result }
 {
     ShownWords {
@@ -136,6 +154,7 @@ fn shown_words<'a>(options: &ArgMatches<'a>) -> ShownWords<'a>
         json: options.get_flag("json"),
         pretty: options.get_flag("pretty"),
         picture: options.get_str("picture"),
+        logs: options.get_strs("log"),
     }
 }
 

@@ -29,9 +29,9 @@ pub struct ZoneWords<'m, 'a> {
 }
 
 /// What a command line says of a report's lines: which are wanted, those that meet each condition that is given, and
-/// whether each is to be JSON, or for people; both are one too many. And where the feed's picture goes.
+/// whether each is to be JSON, or for people; both are one too many. And where the feed's picture goes, and what the feed is of.
 #[derive(Clone, Copy, Debug, PartialEq, Eq)]
-pub struct ShownWords<'a> {
+pub struct ShownWords<'m, 'a> {
     /// Letters of lines.
     pub only: Option<&'a str>,
     /// The name of an object.
@@ -44,6 +44,8 @@ pub struct ShownWords<'a> {
     pub pretty: bool,
     /// The file of the picture, if there is to be one.
     pub picture: Option<&'a str>,
+    /// The logs whose feed it is of, in order, if there are some: else it is of the feed on standard input.
+    pub logs: Option<&'m [&'a str]>,
 }
 
 /// Whether a line of a report begins with this letter.
@@ -60,7 +62,7 @@ fn are_line_letters(letters: &str) -> bool
     letters.as_bytes().iter().all(|byte| is_line_letter(*byte))
 }
 
-impl ShownWords<'_> {
+impl ShownWords<'_, '_> {
     /// Whether the report is wanted as it is.
     pub fn is_plain(self) -> bool
         ensures { result ≡ is_plain self.entry }
@@ -165,7 +167,7 @@ pub enum Request<'m, 'a> {
     Replay {
         objects: Option<&'a str>,
         zone: ZoneWords<'m, 'a>,
-        shown: ShownWords<'a>,
+        shown: ShownWords<'m, 'a>,
         /// The files of the logs with which it is compared, in order, if there are some.
         compare: Option<&'m [&'a str]>,
     },

@@ -4,7 +4,9 @@
 pub mod clock_line;
 pub mod feed;
 pub mod feed_file;
+pub mod log_files;
 mod minutes;
 
 pub use feed::Feed;
 pub use feed_file::{FeedFile, FeedWays};
+pub use log_files::LogFiles;

@@ -53,7 +53,7 @@ pub fn make_feed(alloc: Global, supposed: &Supposed<'_>) -> Result<Vec<u8>, Allo
 
 /// Adds a moment, as a line of a feed begins.
 #[tactic(auto, unfolding(crate::specs::Made::stamp))]
-fn push_stamp(text: &mut Vec<u8>, moment: u64) -> Result<(), AllocError>
+pub fn push_stamp(text: &mut Vec<u8>, moment: u64) -> Result<(), AllocError>
     ensures { OnOk result (text.new.items ≡ text.old.items ++ stamp moment) }
 {
     let mut buffer = Buffer::new();
@@ -130,7 +130,7 @@ fn push_clock(text: &mut Vec<u8>, moment: u64) -> Result<(), AllocError>
 }
 
 /// Adds the lines of the clock, one a minute.
-fn push_clocks(text: &mut Vec<u8>, moment: u64, minutes: u32) -> Result<(), AllocError>
+pub fn push_clocks(text: &mut Vec<u8>, moment: u64, minutes: u32) -> Result<(), AllocError>
     requires { moment < 2 ^ 40 }
     ensures { OnOk result (text.new.items ≡ text.old.items
         ++ flat_map (λ minute. clock_line (moment + 60 * (minute + 1))) (range_with_len 0 minutes)) }

@@ -1,5 +1,6 @@
 //! A replay beside logs of Nagios.
 
+use crate::logs::ReplayFeed;
 use crate::{out_of_memory, status_of_replay};
 use command_output::{AnyWriter, CommandFault, Ending};
 use due_model::config::Choices;
@@ -35,10 +36,11 @@ fn compare_through<P: Watcher>(
     zone: &Zone,
     objects: Option<&str>,
     log: &[u8],
+    feed: ReplayFeed,
     watcher: &mut P,
 ) -> Result<Ending, CommandFault> {
     let alloc = rt.alloc();
-    let input = AnyReader::new(rt.stdin());
+    let input = AnyReader::new(feed);
     let mut writer = AnyWriter::new(rt.stdout());
     let Some(path) = objects else {
         return compare_in(alloc, choices, zone, input, log, &mut writer, watcher);
@@ -66,6 +68,7 @@ pub(crate) fn status_of_compare(
     zone: &Zone,
     objects: Option<&str>,
     logs: &[&str],
+    feed: ReplayFeed,
 ) -> ExitCode {
     let mut text = Vec::new(rt.alloc());
     for path in logs {
@@ -74,7 +77,7 @@ pub(crate) fn status_of_compare(
         }
     }
     let mut line = ProgressLine::new(rt, rt.stderr().is_terminal());
-    let outcome = compare_through(rt, choices, zone, objects, text.as_slice(), &mut line);
+    let outcome = compare_through(rt, choices, zone, objects, text.as_slice(), feed, &mut line);
     line.finish();
     status_of_replay(rt, objects, outcome)
 }

@@ -18,6 +18,7 @@ mod compare;
 mod diff;
 mod faults;
 mod feeds;
+mod logs;
 mod picture;
 mod pretty;
 mod who;
@@ -36,6 +37,7 @@ use due_model::zone::Zone;
 use faults::{say_more, say_more_of_input};
 use feeds::status_of_feed;
 use line_forms::Picks;
+use logs::{ReplayFeed, feed_of_logs};
 use picture::status_of_picture;
 use pretty::pretty_through;
 use progress::{ProgressLine, Watcher};
@@ -112,16 +114,17 @@ fn do_replay(
     choices: Choices,
     zone: &Zone,
     objects: Option<&str>,
-    words: ShownWords<'_>,
+    words: ShownWords<'_, '_>,
+    feed: ReplayFeed,
 ) -> Result<Ending, CommandFault> {
     let mut line = ProgressLine::new(rt, rt.stderr().is_terminal());
     let outcome = if words.is_plain() {
-        replay_through(rt, choices, zone, objects, &mut line)
+        replay_through(rt, choices, zone, objects, feed, &mut line)
     } else if words.pretty {
-        pretty_through(rt, choices, zone, objects, picks_of(words), &mut line)
+        pretty_through(rt, choices, zone, objects, picks_of(words), feed, &mut line)
     } else {
         let shown = shown_lines(rt.alloc(), words);
-        show_through(rt, choices, zone, objects, shown, &mut line)
+        show_through(rt, choices, zone, objects, shown, feed, &mut line)
     };
     line.finish();
     outcome
@@ -133,10 +136,11 @@ fn replay_through<P: Watcher>(
     choices: Choices,
     zone: &Zone,
     objects: Option<&str>,
+    feed: ReplayFeed,
     watcher: &mut P,
 ) -> Result<Ending, CommandFault> {
     let alloc = rt.alloc();
-    let input = AnyReader::new(rt.stdin());
+    let input = AnyReader::new(feed);
     let mut writer = AnyWriter::new(rt.stdout());
     let Some(path) = objects else {
         return replay_in(alloc, choices, zone, input, &mut writer, watcher);
@@ -149,7 +153,7 @@ fn replay_through<P: Watcher>(
 }
 
 /// Which lines are wanted.
-pub(crate) fn picks_of(words: ShownWords<'_>) -> Picks<'_>
+pub(crate) fn picks_of<'a>(words: ShownWords<'_, 'a>) -> Picks<'a>
     ensures { ArePickedBy words.entry result }
 {
     Picks {
@@ -160,7 +164,7 @@ pub(crate) fn picks_of(words: ShownWords<'_>) -> Picks<'_>
 }
 
 /// Which lines are wanted, and how they are written.
-pub(crate) fn shown_lines(alloc: Global, words: ShownWords<'_>) -> ShownLines<'_>
+pub(crate) fn shown_lines<'a>(alloc: Global, words: ShownWords<'_, 'a>) -> ShownLines<'a>
     ensures { AreShownBy words.entry result }
 {
     let form = if words.json {
@@ -179,10 +183,11 @@ fn show_through<P: Watcher>(
     zone: &Zone,
     objects: Option<&str>,
     shown: ShownLines<'_>,
+    feed: ReplayFeed,
     watcher: &mut P,
 ) -> Result<Ending, CommandFault> {
     let alloc = rt.alloc();
-    let input = AnyReader::new(rt.stdin());
+    let input = AnyReader::new(feed);
     let mut writer = AnyWriter::new(rt.stdout());
     let Some(path) = objects else {
         return show_in(alloc, choices, zone, input, shown, &mut writer, watcher);
@@ -251,6 +256,32 @@ fn status_of_replay(
     }
 }
 
+/// Does a replay of the feed on standard input, or of logs, compared with logs, with a picture, or alone, and gives its exit status.
+fn status_of_shown(
+    rt: &HostRuntime,
+    choices: Choices,
+    zone: &Zone,
+    objects: Option<&str>,
+    shown: ShownWords<'_, '_>,
+    compare: Option<&[&str]>,
+) -> ExitCode {
+    if shown.logs.is_some() && objects.is_none() {
+        return status_of_words(rt, "--log without --objects");
+    }
+    let feed = match feed_of_logs(rt, choices, shown.logs) {
+        Ok(feed) => feed,
+        Err(status) => return status,
+    };
+    match (compare, shown.picture) {
+        (Some(logs), _) => status_of_compare(rt, choices, zone, objects, logs, feed),
+        (None, Some(path)) => status_of_picture(rt, choices, zone, objects, shown, path, feed),
+        (None, None) => {
+            let outcome = do_replay(rt, choices, zone, objects, shown, feed);
+            status_of_replay(rt, objects, outcome)
+        }
+    }
+}
+
 /// Says on standard error what is wrong of a command line, and gives the exit status.
 fn status_of_words<R: Eprint>(rt: &R, fault: &str) -> ExitCode
     ensures { exit_status result ≡ 2 }
@@ -301,13 +332,7 @@ fn status_in<T: Threads + Wait + Clock + Sync>(
             shown,
             compare,
             ..
-        } => match (compare, shown.picture) {
-            (Some(logs), _) => status_of_compare(rt, choices, zone, objects, logs),
-            (None, Some(path)) => status_of_picture(rt, choices, zone, objects, shown, path),
-            (None, None) => {
-                status_of_replay(rt, objects, do_replay(rt, choices, zone, objects, shown))
-            }
-        },
+        } => status_of_shown(rt, choices, zone, objects, shown, compare),
         Request::Trace {
             settings,
             standbys,

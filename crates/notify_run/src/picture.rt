@@ -1,5 +1,6 @@
 //! A report on standard output, and the picture of its feed in a file.
 
+use crate::logs::ReplayFeed;
 use crate::pretty::has_colours;
 use crate::{out_of_memory, picks_of, shown_lines, status_of, status_of_replay};
 use command_line::ShownWords;
@@ -22,10 +23,11 @@ fn draw_through<P: Watcher, T: Teller>(
     objects: Option<&str>,
     teller: T,
     picture: &mut Picture,
+    feed: ReplayFeed,
     watcher: &mut P,
 ) -> Result<Ending, CommandFault> {
     let alloc = rt.alloc();
-    let input = AnyReader::new(rt.stdin());
+    let input = AnyReader::new(feed);
     let mut writer = AnyWriter::new(rt.stdout());
     let Some(path) = objects else {
         return draw_in(alloc, site, input, teller, picture, &mut writer, watcher);
@@ -51,16 +53,17 @@ fn draw_shown<P: Watcher>(
     rt: &HostRuntime,
     site: Site<'_>,
     objects: Option<&str>,
-    words: ShownWords<'_>,
+    words: ShownWords<'_, '_>,
     picture: &mut Picture,
+    feed: ReplayFeed,
     watcher: &mut P,
 ) -> Result<Ending, CommandFault> {
     if words.pretty {
         let pretty = PrettyLines::new(rt.alloc(), picks_of(words), has_colours(rt))?;
-        draw_through(rt, site, objects, pretty, picture, watcher)
+        draw_through(rt, site, objects, pretty, picture, feed, watcher)
     } else {
         let shown = shown_lines(rt.alloc(), words);
-        draw_through(rt, site, objects, shown, picture, watcher)
+        draw_through(rt, site, objects, shown, picture, feed, watcher)
     }
 }
 
@@ -116,8 +119,9 @@ pub(crate) fn status_of_picture(
     choices: Choices,
     zone: &Zone,
     objects: Option<&str>,
-    words: ShownWords<'_>,
+    words: ShownWords<'_, '_>,
     path: &str,
+    feed: ReplayFeed,
 ) -> ExitCode {
     let mut unfinished = match Unfinished::new(rt, path) {
         Ok(unfinished) => unfinished,
@@ -126,7 +130,7 @@ pub(crate) fn status_of_picture(
     let mut line = ProgressLine::new(rt, rt.stderr().is_terminal());
     let mut picture = Picture::new(rt.alloc());
     let site = Site { choices, zone };
-    let outcome = draw_shown(rt, site, objects, words, &mut picture, &mut line);
+    let outcome = draw_shown(rt, site, objects, words, &mut picture, feed, &mut line);
     line.finish();
     if outcome.is_err() {
         unfinished.remove(rt);

@@ -3,6 +3,7 @@
 ghost use Rattle.std.specs.Prelude.{◌≡◌, true};
 ghost use Rattle.who_missed.specs.declared.forms.RowForm.TheVariants.{Json};
 
+use crate::logs::ReplayFeed;
 use command_output::{AnyWriter, CommandFault, Ending};
 use due_model::config::Choices;
 use due_model::zone::Zone;
@@ -47,6 +48,7 @@ pub(crate) fn pretty_through<P: Watcher>(
     zone: &Zone,
     objects: Option<&str>,
     picks: Picks<'_>,
+    feed: ReplayFeed,
     watcher: &mut P,
 ) -> Result<Ending, CommandFault> {
     let alloc = rt.alloc();
@@ -54,7 +56,7 @@ pub(crate) fn pretty_through<P: Watcher>(
         picks,
         coloured: has_colours(rt),
     };
-    let input = AnyReader::new(rt.stdin());
+    let input = AnyReader::new(feed);
     let mut writer = AnyWriter::new(rt.stdout());
     let Some(path) = objects else {
         return pretty_in(alloc, choices, zone, input, wanted, &mut writer, watcher);

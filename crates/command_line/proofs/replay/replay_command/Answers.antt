@@ -12,4 +12,5 @@ returns c =
     let shown = c.in_ok-with_shown.ensures.words ∙ ap with_shown added in
     let drawn = c.in_ok-with_shown-2.ensures.shape c.text_option-picture.ensures.local ∙ ap₂ with_rule shown c.text_option-picture.ensures.rule in
     let compared = c.in_ok-with_shown-3.ensures.shape c.compare_option.ensures.local ∙ ap₂ with_rule drawn c.compare_option.ensures.rule in
-    record { words = IfOk-weaker c.with_site.result _ _ (λ r h. h ∙ ap with_site compared) c.with_site.ensures.words }
+    let logged = c.in_ok-with_log.ensures.shape c.log_option.ensures.local ∙ ap₂ with_rule compared c.log_option.ensures.rule in
+    record { words = IfOk-weaker c.with_site.result _ _ (λ r h. h ∙ ap with_site logged) c.with_site.ensures.words }

@@ -1,0 +1,3 @@
+pub mod FlowLemmas
+pub mod KeptLemmas
+pub mod WordLemmas

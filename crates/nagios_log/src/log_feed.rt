@@ -1,0 +1,238 @@
+//! A log that is read as a feed.
+
+ghost use Rattle.std.specs.Prelude.{◌≡◌, ◌<◌, ◌≤◌, ◌++◌, ◌==◌, [], false, true, IfOk, OnErr, OnOk, drop, length, take};
+ghost use Rattle.std.specs.Io.KnownBytes.{Keeps};
+ghost use Rattle.std.specs.List.{position_or_len};
+ghost use Rattle.std.specs.Option.{option_map};
+ghost use Rattle.nagios_log.specs.claims.Feed.{clocks, fed, front_limit, log_feed};
+ghost use Rattle.nagios_log.specs.Feed.{Fills, to_come};
+
+use crate::counts::Counts;
+use crate::translator::Translator;
+use std::alloc::Global;
+use std::io::{self, ErrorKind, Read};
+use std::marker::Model;
+use text_lines::find_byte;
+
+/// How many bytes are read of a line: its fields stand at its front.
+const FRONT: usize = 8_192;
+
+/// How many bytes are read at once, at most.
+const CHUNK: usize = 65_536;
+
+/// A reader of a log that gives its feed. Contracts see what of both is under way.
+#[derive(Drop)]
+pub struct LogFeed<R: Read> {
+    reader: R,
+    /// What was read last.
+    chunk: Vec<u8>,
+    /// How many bytes of that were looked at.
+    start: usize,
+    /// The front of the line under way.
+    line: Vec<u8>,
+    translator: Translator,
+    /// What the last line added.
+    text: Vec<u8>,
+    /// How many bytes of that were given.
+    given: usize,
+    ended: bool,
+}
+
+impl<R: Read> Model for LogFeed<R> {
+    ghost use Rattle.std.specs.Prelude.{◌≤◌, drop, vec_len};
+    ghost use Rattle.nagios_log.specs.Feed.{Flow};
+
+    ghost Value = { Flow };
+
+    ghost view = { λ s. record {
+      held = drop s.given s.text.items;
+      kept = s.translator;
+      line = s.line.items;
+      chunk = drop s.start s.chunk.items;
+      ended = s.ended;
+      unread = R.remaining s.reader;
+    } };
+
+    ghost invariant = { λ s. (s.start ≤ vec_len s.chunk) × (s.given ≤ vec_len s.text)
+        × (vec_len s.line ≤ 8192) };
+}
+
+impl<R: Read> LogFeed<R> {
+    /// The feed of a log, of which nothing was read. Where results make attempts, each is told again where it stands,
+    /// and there are no lines of the clock.
+    pub fn new(alloc: Global, reader: R, at_results: bool) -> LogFeed<R>
+        ensures { to_come result ≡ option_map (log_feed at_results) (R.remaining reader) }
+    {
+        LogFeed {
+            reader,
+            chunk: Vec::new(alloc),
+            start: 0,
+            line: Vec::new(alloc),
+            translator: Translator::new(alloc, at_results),
+            text: Vec::new(alloc),
+            given: 0,
+            ended: false,
+        }
+    }
+
+    /// The lines so far that add nothing to the feed, by why.
+    pub fn counts(&self) -> Counts {
+        self.translator.counts()
+    }
+
+    /// Calls the reader once, where no byte of it is left.
+    fn fill(&mut self) -> io::Result<usize>
+        requires { self.old.chunk ≡ [] }
+        ensures bytes { Fills self.old result self.new }
+        ensures held { self.new.held ≡ self.old.held }
+        ensures kept { self.new.kept ≡ self.old.kept }
+        ensures line { self.new.line ≡ self.old.line }
+        ensures ended { self.new.ended ≡ self.old.ended }
+    {
+        self.start = 0;
+        self.chunk.clear();
+        self.chunk.resize(CHUNK, 0)?;
+        match self.reader.read(self.chunk.as_mut_slice()) {
+            Ok(count) => {
+                self.chunk.truncate(count);
+                Ok(count)
+            }
+            Err(error) => {
+                self.chunk.clear();
+                Err(error)
+            }
+        }
+    }
+
+    /// Takes what stands before the next newline as a part of the line, and no more of it than its front.
+    fn take_part(&mut self) -> io::Result<()>
+        ensures ok { OnOk result (self.new ≡ record self.old {
+          line = take front_limit (self.old.line
+              ++ take (position_or_len (λ b. b == 10) self.old.chunk) self.old.chunk);
+          chunk = drop (position_or_len (λ b. b == 10) self.old.chunk) self.old.chunk;
+        }) }
+        ensures err { OnErr result (self.new ≡ self.old) }
+    {
+        let part = &self.chunk[self.start..];
+        let place = find_byte(b'\n', part);
+        let room = FRONT - self.line.len();
+        self.line.extend_from_slice(&part[..place.min(room)])?;
+        self.start += place;
+        Ok(())
+    }
+
+    /// Ends the line under way: what it adds is held, and nothing else was.
+    fn end_line(&mut self) -> io::Result<()>
+        requires { self.old.held ≡ [] }
+        ensures ok { OnOk result (self.new ≡ record self.old {
+          held = (fed self.old.kept self.old.line).0;
+          kept = (fed self.old.kept self.old.line).1;
+          line = [];
+        }) }
+        ensures err { OnErr result (self.new ≡ self.old) }
+    {
+        self.text = self.translator.read(&self.line)?;
+        self.given = 0;
+        self.line.clear();
+        Ok(())
+    }
+
+    /// Passes over the newline of what was read.
+    fn pass_newline(&mut self)
+        requires { 0 < length self.old.chunk }
+        ensures { self.new ≡ record self.old { chunk = drop 1 self.old.chunk } }
+    {
+        self.start += 1;
+    }
+
+    /// Ends the feed, where the log is at its end and no line is under way.
+    fn end_feed(&mut self) -> io::Result<()>
+        requires { self.old.held ≡ [] }
+        ensures ok { OnOk result (self.new ≡ record self.old {
+          held = clocks self.old.kept self.old.kept.moment;
+          ended = true;
+        }) }
+        ensures err { OnErr result (self.new ≡ self.old) }
+    {
+        self.text = self.translator.end_text()?;
+        self.given = 0;
+        self.ended = true;
+        Ok(())
+    }
+
+    /// Goes on at the end of what was read: the reader is called, and at its end the last line or the feed is over.
+    fn go_on(&mut self) -> io::Result<()>
+        requires held { self.old.held ≡ [] }
+        requires chunk { self.old.chunk ≡ [] }
+        requires ended { self.old.ended ≡ false }
+        ensures { Keeps (to_come self.old) (to_come self.new) }
+    {
+        if self.fill()? > 0 {
+            return Ok(());
+        }
+        if self.line.is_empty() {
+            self.end_feed()
+        } else {
+            self.end_line()
+        }
+    }
+
+    /// Looks at the next of what was read: a newline, or what stands before one.
+    fn look(&mut self) -> io::Result<()>
+        requires held { self.old.held ≡ [] }
+        requires chunk { 0 < length self.old.chunk }
+        requires ended { self.old.ended ≡ false }
+        ensures { Keeps (to_come self.old) (to_come self.new) }
+    {
+        if self.chunk[self.start] != b'\n' {
+            return self.take_part();
+        }
+        self.end_line()?;
+        self.pass_newline();
+        Ok(())
+    }
+
+    /// Goes on with the log, where all that was added is given.
+    fn step(&mut self) -> io::Result<()>
+        requires held { self.old.held ≡ [] }
+        requires ended { self.old.ended ≡ false }
+        ensures { Keeps (to_come self.old) (to_come self.new) }
+    {
+        if self.start < self.chunk.len() {
+            self.look()
+        } else {
+            self.go_on()
+        }
+    }
+
+    /// Gives of what waits as much as there is room for.
+    fn give(&mut self, buffer: &mut [u8]) -> usize
+        ensures bound { result ≤ length buffer.new }
+        ensures given { take result buffer.new ++ self.new.held ≡ self.old.held }
+        ensures some { result ≡ 0 → 0 < length buffer.new → self.old.held ≡ [] }
+        ensures rest { self.new ≡ record self.old { held = self.new.held } }
+    {
+        let waiting = &self.text[self.given..];
+        let count = waiting.len().min(buffer.len());
+        buffer[..count].copy_from_slice(&waiting[..count]);
+        self.given += count;
+        count
+    }
+}
+
+impl<R: Read> Read for LogFeed<R> {
+    ghost remaining = { to_come };
+
+    fn read(&mut self, buffer: &mut [u8]) -> io::Result<usize> {
+        for _step in 0..u64::MAX {
+            if self.given < self.text.len() {
+                return Ok(self.give(buffer));
+            }
+            if self.ended {
+                return Ok(0);
+            }
+            self.step()?;
+        }
+        Err(io::Error::from(ErrorKind::Interrupted))
+    }
+}
