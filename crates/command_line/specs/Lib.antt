@@ -1,4 +1,5 @@
 pub mod Options
+pub mod Objects
 pub mod State
 pub mod Check
 pub mod Why

@@ -5,6 +5,7 @@ use Rattle.clap.specs.Matches.{first_value}
 use Rattle.clap.specs.declared.parser.matches.Found.{Found}
 use Rattle.clap.specs.Words.{App, Rule, new_app, with_rule}
 use Rattle.command_line.specs.declared.why.WhyWords.{WhyWords}
+use Rattle.command_line.specs.Objects.{with_objects}
 use Rattle.command_line.specs.Options.{IsFlag, flag_option, text_option, with_site}
 
 -- the values that the options of `why` hold of what is asked
@@ -29,8 +30,6 @@ with_span app =
     with_rule (with_rule (with_rule (with_rule app (text_option (codes "contact"))) (text_option (codes "from"))) (text_option (codes "to")))
     (flag_option (codes "json"))
 
--- `why` has the file of object text, the object, and these
+-- `why` has the object text, the object, and these
 abbrev pub why_words : App
-why_words =
-    with_site (with_span (with_rule (with_rule (new_app (codes "why"))
-    (record (text_option (codes "objects")) { required = true })) asked_object))
+why_words = with_site (with_span (with_rule (with_objects (new_app (codes "why"))) asked_object))

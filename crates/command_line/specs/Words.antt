@@ -15,8 +15,9 @@ use Rattle.steps.specs.claims.Settings.{AreSettings}
 use Rattle.steps.specs.Settings.{max_channels}
 use Rattle.clap.specs.declared.builder.value_parser.ValueParser.TheVariants.{Signed}
 use Rattle.command_line.specs.State.{IsStateOf, state_fault, with_state_options}
-use Rattle.command_line.specs.Check.{check_words, IsCheckOf, LacksCheck}
-use Rattle.command_line.specs.Why.{IsWhyOf, LacksWhy, why_words}
+use Rattle.command_line.specs.Check.{check_words, IsCheckOf}
+use Rattle.command_line.specs.Objects.{AreObjectsOf, names_objects, with_changed, with_objects}
+use Rattle.command_line.specs.Why.{IsWhyOf, why_words}
 pub use Rattle.command_line.specs.Options.{flag_option, IsFlag, text_option, text_options, with_choices, with_site, with_zone}
 use Rattle.command_line.specs.declared.state.FeedFault.{FeedFault}
 use Rattle.command_line.specs.declared.state.FeedFault.TheVariants.{NoFeed}
@@ -140,36 +141,17 @@ LacksSupposed options = is_some (first_value options (codes "object")) ≡ true
     → is_some (first_value options (codes "state")) ≡ true
     → is_some (first_value options (codes "for")) ≡ true → ⊥
 
--- The options of `who` make no request: they name no file, or suppose nothing.
-abbrev pub WhoLacks : Found → Type 0
-WhoLacks options =
-    is_some (first_value options (codes "objects")) ≡ true → LacksSupposed options
-
--- The options of `diff` make no request: they lack one of the two files.
-abbrev pub DiffLacks : Found → Type 0
-DiffLacks options = is_some (first_value options (codes "objects")) ≡ true
-    → is_some (first_value options (codes "with")) ≡ true → ⊥
-
--- The options of `why` make no request: they name no file, or no object.
-abbrev pub WhyLacks : Found → Type 0
-WhyLacks options = is_some (first_value options (codes "objects")) ≡ true → LacksWhy options
-
--- The options of `check` make no request: they name no file.
-abbrev pub CheckLacks : Found → Type 0
-CheckLacks options = LacksCheck options
-
--- The options of `run` make no request: they name no file, or the numbers that they hold are no settings or no times.
+-- The options of `run` make no request: the numbers that they hold are no settings or no times.
 abbrev pub RunLacks : Found → Type 0
-RunLacks options = (deciders : ℕ) → is_some (first_value options (codes "objects")) ≡ true
-    → HoldsNumber options (codes "deciders") deciders → HoldFitting options deciders → HoldSomeTimes options → ⊥
+RunLacks options = (deciders : ℕ) → HoldsNumber options (codes "deciders") deciders → HoldFitting options deciders → HoldSomeTimes options → ⊥
 
--- What the options of a command hold: of `replay` the file of the object text, if it is given, and which lines are wanted; of
--- `trace` the settings and how many channels stand by; of `run` the file, the settings, the times, how far ahead a stamp may be, where
--- its report goes, where the feed is read from, and the channel words; of `who` the file and what is supposed; of `diff` the two files,
--- and whether lines are to be JSON; and of each the zone.
+-- What the options of a command hold: of all but `trace` where the object text is; of `replay` which lines are wanted; of
+-- `trace` the settings and how many channels stand by; of `run` the settings, the times, how far ahead a stamp may be, where
+-- its report goes, where the feed is read from, and the channel words; of `who` what is supposed; of `diff` where the changed object text
+-- is, and whether lines are to be JSON; and of each the zone.
 abbrev pub IsRequestOf : Found → Request → Type 0
 IsRequestOf options (Replay objects zone shown compare) =
-    (option_copied objects ≡ first_value options (codes "objects")) × IsZoneOf options zone
+    AreObjectsOf options (codes "objects") (codes "config") objects × IsZoneOf options zone
     × IsShownOf options shown
     × (option_map (λ texts. map (λ text. text.now) texts.now) compare
     ≡ option_map raw_values (matched_of options (codes "compare")))
@@ -178,21 +160,21 @@ IsRequestOf options (Trace settings standbys zone) =
     × HoldsNumber options (codes "standbys") standbys
     × HoldSettings options settings × IsZoneOf options zone
 IsRequestOf options (Run objects settings zone channels times quiet ahead log feed) =
-    (Some objects.now ≡ first_value options (codes "objects"))
+    AreObjectsOf options (codes "objects") (codes "config") objects
     × HoldsNumber options (codes "deciders") settings.deciders × HoldSettings options settings × IsZoneOf options zone
     × HoldTimes options times × IsFlag options (codes "quiet") quiet
     × HoldsAnyNumber options (codes "ahead") ahead × IsLogOf options log × IsFeedOf options feed
     × (option_map (λ words. map (λ word. word.now) words.now) channels
     ≡ option_map raw_values (matched_of options (codes "channel")))
 IsRequestOf options (Who objects zone asked) =
-    (Some objects.now ≡ first_value options (codes "objects")) × IsZoneOf options zone
+    AreObjectsOf options (codes "objects") (codes "config") objects × IsZoneOf options zone
     × IsWhoOf options asked
 IsRequestOf options (Diff objects changed zone json) =
-    (Some objects.now ≡ first_value options (codes "objects"))
-    × (Some changed.now ≡ first_value options (codes "with")) × IsZoneOf options zone
+    AreObjectsOf options (codes "objects") (codes "config") objects
+    × AreObjectsOf options (codes "with") (codes "with-config") changed × IsZoneOf options zone
     × IsFlag options (codes "json") json
 IsRequestOf options (Why objects zone asked) =
-    (Some objects.now ≡ first_value options (codes "objects")) × IsZoneOf options zone
+    AreObjectsOf options (codes "objects") (codes "config") objects × IsZoneOf options zone
     × IsWhyOf options asked
 IsRequestOf options (Check zone asked) = IsZoneOf options zone × IsCheckOf options asked
 
@@ -231,6 +213,25 @@ feed_fault (Who objects zone asked) = None
 feed_fault (Diff objects changed zone json) = None
 feed_fault (Why objects zone asked) = None
 feed_fault (Check zone asked) = None
+
+-- It has to name object text, and doesn't; the same of the changed one.
+abbrev pub lacks_objects : Request → Bool
+lacks_objects (Replay objects zone shown) = false
+lacks_objects (Trace settings standbys zone) = false
+lacks_objects (Run objects settings zone channels times quiet ahead log feed) = not (names_objects objects)
+lacks_objects (Who objects zone asked) = not (names_objects objects)
+lacks_objects (Diff objects changed zone json) = not (names_objects objects)
+lacks_objects (Why objects zone asked) = not (names_objects objects)
+lacks_objects (Check zone asked) = not (names_objects asked.objects)
+
+abbrev pub lacks_changed : Request → Bool
+lacks_changed (Replay objects zone shown) = false
+lacks_changed (Trace settings standbys zone) = false
+lacks_changed (Run objects settings zone channels times quiet ahead log feed) = false
+lacks_changed (Who objects zone asked) = false
+lacks_changed (Diff objects changed zone json) = not (names_objects changed)
+lacks_changed (Why objects zone asked) = false
+lacks_changed (Check zone asked) = false
 
 -- it gives a rule, or a file
 abbrev pub is_given : ZoneWords → Bool
@@ -312,10 +313,10 @@ abbrev pub with_shown : App → App
 with_shown app =
     with_rule (with_rule (with_picks app) (flag_option (codes "json"))) (flag_option (codes "pretty"))
 
--- `replay` has these, the file of the object text, that of a picture, the logs with which it is compared, and those that are its feed
+-- `replay` has these, the object text, the file of a picture, the logs with which it is compared, and those that are its feed
 abbrev pub replay_words : App
 replay_words =
-    with_site (with_rule (with_rule (with_rule (with_shown (with_rule (new_app (codes "replay")) (text_option (codes "objects"))))
+    with_site (with_rule (with_rule (with_rule (with_shown (with_objects (new_app (codes "replay"))))
     (text_option (codes "picture"))) (text_options (codes "compare"))) (text_options (codes "log")))
 
 -- two say how many notices a lane's queue holds, and how many tries a message has
@@ -353,8 +354,7 @@ with_log_options app =
 -- these, how far ahead a stamp may be, where its report and its metrics go, `--quiet`, where the feed is read from, what is kept, and the channel words
 abbrev pub run_words : App
 run_words =
-    with_rule (with_site (with_state_options (with_feed_options (with_rule (with_log_options (with_rule (with_try_options (with_rule (with_rule (with_rule (new_app (codes "run"))
-    (record (text_option (codes "objects")) { required = true }))
+    with_rule (with_site (with_state_options (with_feed_options (with_rule (with_log_options (with_rule (with_try_options (with_rule (with_rule (with_objects (new_app (codes "run")))
     (number_option (codes "deciders") (codes "2") 1 8))
     (number_option (codes "queue") (codes "64") 1 1024)))
     (bare_number_option (codes "ahead") 0 4294967295)))
@@ -380,18 +380,14 @@ with_supposed app =
     (text_options (codes "down"))) (flag_option (codes "json")))
     (one_word (codes "object"))) (one_word (codes "state"))
 
--- `who` has these, and the file of the object text, which must be given
+-- `who` has these, and the object text
 abbrev pub who_words : App
-who_words =
-    with_site (with_supposed (with_rule (new_app (codes "who"))
-    (record (text_option (codes "objects")) { required = true })))
+who_words = with_site (with_supposed (with_objects (new_app (codes "who"))))
 
--- `diff` has two files of object text, both of which must be given, and a flag that says that each line is to be JSON
+-- `diff` has two object texts, and a flag that says that each line is to be JSON
 abbrev pub diff_words : App
 diff_words =
-    with_site (with_rule (with_rule (with_rule (new_app (codes "diff"))
-    (record (text_option (codes "objects")) { required = true }))
-    (record (text_option (codes "with")) { required = true })) (flag_option (codes "json")))
+    with_site (with_rule (with_changed (with_objects (new_app (codes "diff")))) (flag_option (codes "json")))
 
 -- `notify-run` has these commands, `--version`, no command `help`, and asks for one of them
 abbrev pub program_words : App

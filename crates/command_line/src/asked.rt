@@ -2,8 +2,9 @@
 
 ghost use Rattle.std.specs.Prelude.{◌≡◌, codes, IfNone, IfOk, IfSome, is_some, Some, true};
 ghost use Rattle.clap.specs.Words.{app_of, subcommand_name_of};
-ghost use Rattle.command_line.specs.Words.{AreSettingsFit, IsAskedBy, IsMetWith, RunLacks, WhoLacks};
-ghost use Rattle.command_line.specs.Words.{CheckLacks, DiffLacks, TraceLacks, WhyLacks, program_words, request_name};
+ghost use Rattle.command_line.specs.Why.{LacksWhy};
+ghost use Rattle.command_line.specs.Words.{AreSettingsFit, IsAskedBy, IsMetWith, LacksSupposed, RunLacks};
+ghost use Rattle.command_line.specs.Words.{TraceLacks, program_words, request_name};
 
 use crate::check::{check_command, check_request};
 use crate::diff::{diff_command, diff_request};
@@ -65,22 +66,22 @@ pub fn request_of<'m, 'a>(matches: &'m ArgMatches<'a>) -> Option<Request<'m, 'a>
     ensures run { IfNone result (subcommand_name_of matches.now ≡ Some (codes "run")
         → IsMetWith matches.now (codes "run") RunLacks) }
     ensures who { IfNone result (subcommand_name_of matches.now ≡ Some (codes "who")
-        → IsMetWith matches.now (codes "who") WhoLacks) }
-    ensures diff { IfNone result (subcommand_name_of matches.now ≡ Some (codes "diff")
-        → IsMetWith matches.now (codes "diff") DiffLacks) }
+        → IsMetWith matches.now (codes "who") LacksSupposed) }
+    ensures diff { subcommand_name_of matches.now ≡ Some (codes "diff")
+        → is_some result ≡ true }
     ensures why { IfNone result (subcommand_name_of matches.now ≡ Some (codes "why")
-        → IsMetWith matches.now (codes "why") WhyLacks) }
-    ensures check { IfNone result (subcommand_name_of matches.now ≡ Some (codes "check")
-        → IsMetWith matches.now (codes "check") CheckLacks) }
+        → IsMetWith matches.now (codes "why") LacksWhy) }
+    ensures check { subcommand_name_of matches.now ≡ Some (codes "check")
+        → is_some result ≡ true }
 {
     match matches.subcommand() {
         Some(("replay", options)) => Some(replay_request(options)),
         Some(("trace", options)) => trace_request(options),
         Some(("run", options)) => run_request(options),
         Some(("who", options)) => who_request(options),
-        Some(("diff", options)) => diff_request(options),
+        Some(("diff", options)) => Some(diff_request(options)),
         Some(("why", options)) => why_request(options),
-        Some(("check", options)) => check_request(options),
+        Some(("check", options)) => Some(check_request(options)),
         _ => None,
     }
 }

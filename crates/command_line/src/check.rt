@@ -1,13 +1,15 @@
 //! The words of `notify-run check`.
 
-ghost use Rattle.std.specs.Prelude.{◌≡◌, codes, false, true, IfNone, IfOk, IfSome, is_some};
+ghost use Rattle.std.specs.Prelude.{◌≡◌, codes, false, IfOk};
 ghost use Rattle.clap.specs.Matches.{found_of};
 ghost use Rattle.clap.specs.Words.{app_of, rule_of};
-ghost use Rattle.command_line.specs.Check.{IsCheckOf, LacksCheck, allow_option, check_words, objects_option};
-ghost use Rattle.command_line.specs.Words.{AreSettingsFit, CheckLacks, IsRequestOf, request_name};
+ghost use Rattle.command_line.specs.Check.{IsCheckOf, allow_option, check_words};
+ghost use Rattle.command_line.specs.Words.{AreSettingsFit, IsRequestOf, request_name};
 
-use crate::options::{flag_option, text_option, with_site, zone_words};
-use crate::words::Request;
+use crate::options::{
+    flag_option, objects_words, text_option, with_objects, with_site, zone_words,
+};
+use crate::words::{ObjectsWords, Request};
 use clap::{Arg, ArgAction, ArgMatches, Command};
 use std::alloc::{AllocError, Global};
 
@@ -36,29 +38,14 @@ there is a warning.";
 /// What is to be checked.
 #[derive(Clone, Copy, Debug, PartialEq, Eq)]
 pub struct CheckWords<'m, 'a> {
-    /// The files of object text, in order.
-    pub objects: &'m [&'a str],
+    /// Where the object text is.
+    pub objects: ObjectsWords<'m, 'a>,
     /// The names of the warnings that are left out, if any are named.
     pub allowed: Option<&'m [&'a str]>,
     /// Whether a warning makes the exit status 1 too.
     pub strict: bool,
     /// Whether each fault and warning is to be an object of JSON.
     pub json: bool,
-}
-
-/// The option that names a file of object text, any number of times, and once at least.
-fn objects_option<'a>(alloc: Global) -> Arg<'a>
-    ensures rule { rule_of result ≡ objects_option }
-    ensures local { result.global ≡ false }
-{
-    text_option(
-        alloc,
-        "objects",
-        "FILE",
-        "A file of object text; may be given again",
-    )
-    .action(ArgAction::Append)
-    .required(true)
 }
 
 /// The option that names a warning that is left out, any number of times.
@@ -85,37 +72,34 @@ pub(crate) fn check_command<'a>(alloc: Global) -> Result<Command<'a>, AllocError
         .about(
             "All faults of object text, each with its file, line, directive and value; and warnings",
         )
-        .long_about(CHECK)
-        .arg(objects_option(alloc))?
+        .long_about(CHECK);
+    let with_options = with_objects(alloc, command)?
         .arg(allow_option(alloc))?
         .arg(strict)?
         .arg(json)?;
-    with_site(alloc, command)
+    with_site(alloc, with_options)
 }
 
 /// What the options of `check` ask.
-fn check_asked<'m, 'a>(options: &'m ArgMatches<'a>) -> Option<CheckWords<'m, 'a>>
-    ensures held { IfSome result (IsCheckOf (found_of options.now)) }
-    ensures lacking { IfNone result (LacksCheck (found_of options.now)) }
+fn check_asked<'m, 'a>(options: &'m ArgMatches<'a>) -> CheckWords<'m, 'a>
+    ensures { IsCheckOf (found_of options.now) result }
 {
-    Some(CheckWords {
-        objects: options.get_strs("objects")?,
+    CheckWords {
+        objects: objects_words(options),
         allowed: options.get_strs("allow"),
         strict: options.get_flag("strict"),
         json: options.get_flag("json"),
-    })
+    }
 }
 
 /// What the options of `check` ask, as a request.
-pub(crate) fn check_request<'m, 'a>(options: &'m ArgMatches<'a>) -> Option<Request<'m, 'a>>
-    ensures named { IfSome result (λ request. request_name request ≡ codes "check") }
-    ensures options { IfSome result (IsRequestOf (found_of options.now)) }
-    ensures settings { IfSome result AreSettingsFit }
-    ensures lacking { IfNone result (CheckLacks (found_of options.now)) }
+pub(crate) fn check_request<'m, 'a>(options: &'m ArgMatches<'a>) -> Request<'m, 'a>
+    ensures named { request_name result ≡ codes "check" }
+    ensures options { IsRequestOf (found_of options.now) result }
+    ensures settings { AreSettingsFit result }
 {
-    let asked = check_asked(options)?;
-    Some(Request::Check {
+    Request::Check {
         zone: zone_words(options),
-        asked,
-    })
+        asked: check_asked(options),
+    }
 }

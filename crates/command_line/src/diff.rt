@@ -1,13 +1,16 @@
 //! The words of `diff`, and what they ask.
 
-ghost use Rattle.std.specs.Prelude.{◌≡◌, codes, IfNone, IfOk, IfSome};
+ghost use Rattle.std.specs.Prelude.{◌≡◌, codes, IfOk};
 ghost use Rattle.clap.specs.Matches.{found_of};
 ghost use Rattle.clap.specs.Words.{app_of};
-ghost use Rattle.command_line.specs.Words.{AreSettingsFit, DiffLacks, IsRequestOf, diff_words};
+ghost use Rattle.command_line.specs.Objects.{AreObjectsOf, with_changed};
+ghost use Rattle.command_line.specs.Words.{AreSettingsFit, IsRequestOf, diff_words};
 ghost use Rattle.command_line.specs.Words.{request_name};
 
-use crate::options::{flag_option, text_option, with_site, zone_words};
-use crate::words::Request;
+use crate::options::{
+    flag_option, objects_words, text_option, text_options, with_objects, with_site, zone_words,
+};
+use crate::words::{ObjectsWords, Request};
 use clap::{ArgMatches, Command};
 use std::alloc::{AllocError, Global};
 
@@ -30,38 +33,59 @@ Events are numbered by each as it takes them: a line that it refuses gives no ev
 notice. --json writes each line as a JSON object. On a terminal lines are for people, with
 colours unless NO_COLOR is set.";
 
+/// Adds the options that say where the changed object text is.
+fn with_changed<'a>(alloc: Global, command: Command<'a>) -> Result<Command<'a>, AllocError>
+    ensures words { IfOk result (λ command_with.
+        app_of command_with ≡ with_changed (app_of command.entry)) }
+{
+    let named = text_options(
+        alloc,
+        "with",
+        "FILE",
+        "A file of the object text as it would be, or a folder of .cfg files; may be given again",
+    );
+    let config = text_option(
+        alloc,
+        "with-config",
+        "FILE",
+        "The main configuration file as it would be",
+    );
+    command.arg(named)?.arg(config)
+}
+
+/// What the options of `diff` say of where the changed object text is.
+fn changed_words<'m, 'a>(options: &'m ArgMatches<'a>) -> ObjectsWords<'m, 'a>
+    ensures { AreObjectsOf (found_of options.now) (codes "with") (codes "with-config") result }
+{
+    ObjectsWords {
+        named: options.get_strs("with"),
+        config: options.get_str("with-config"),
+    }
+}
+
 /// The command `diff` and its options.
 pub(crate) fn diff_command<'a>(alloc: Global) -> Result<Command<'a>, AllocError>
     ensures words { IfOk result (λ command. app_of command ≡ diff_words) }
 {
-    let objects = text_option(alloc, "objects", "FILE", "The file of object text as it is");
-    let changed = text_option(
-        alloc,
-        "with",
-        "FILE",
-        "The file of object text as it would be",
-    );
     let json = flag_option(alloc, "json", "Each line as a JSON object");
     let command = Command::new(alloc, "diff")
         .about("What a change of the object text does to the notices of a feed")
-        .long_about(DIFF)
-        .arg(objects.required(true))?
-        .arg(changed.required(true))?
-        .arg(json)?;
-    with_site(alloc, command)
+        .long_about(DIFF);
+    let with_objects = with_objects(alloc, command)?;
+    let with_json = with_changed(alloc, with_objects)?.arg(json)?;
+    with_site(alloc, with_json)
 }
 
 /// What the options of `diff` ask.
-pub(crate) fn diff_request<'m, 'a>(options: &'m ArgMatches<'a>) -> Option<Request<'m, 'a>>
-    ensures named { IfSome result (λ request. request_name request ≡ codes "diff") }
-    ensures options { IfSome result (IsRequestOf (found_of options.now)) }
-    ensures settings { IfSome result AreSettingsFit }
-    ensures lacking { IfNone result (DiffLacks (found_of options.now)) }
+pub(crate) fn diff_request<'m, 'a>(options: &'m ArgMatches<'a>) -> Request<'m, 'a>
+    ensures named { request_name result ≡ codes "diff" }
+    ensures options { IsRequestOf (found_of options.now) result }
+    ensures settings { AreSettingsFit result }
 {
-    Some(Request::Diff {
-        objects: options.get_str("objects")?,
-        changed: options.get_str("with")?,
+    Request::Diff {
+        objects: objects_words(options),
+        changed: changed_words(options),
         zone: zone_words(options),
         json: options.get_flag("json"),
-    })
+    }
 }

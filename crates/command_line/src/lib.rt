@@ -17,4 +17,4 @@ pub use asked::{command, request_of};
 pub use check::CheckWords;
 pub use state::{FeedFault, StateWords};
 pub use why::WhyWords;
-pub use words::{FeedWords, LogWords, Request, ShownWords, WhoWords, ZoneWords};
+pub use words::{FeedWords, LogWords, ObjectsWords, Request, ShownWords, WhoWords, ZoneWords};

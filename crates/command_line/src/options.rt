@@ -3,11 +3,12 @@
 ghost use Rattle.std.specs.Prelude.{◌≡◌, ◌<◌, ℕ, codes, false, IfNone, IfOk, IfSome};
 ghost use Rattle.clap.specs.Matches.{found_of};
 ghost use Rattle.clap.specs.Words.{app_of, rule_of};
+ghost use Rattle.command_line.specs.Objects.{AreObjectsOf, with_objects};
 ghost use Rattle.command_line.specs.Words.{IsZoneOf, HoldFitting, HoldSettings, HoldsNumber, flag_option};
 ghost use Rattle.command_line.specs.Words.{one_word, number_option, text_option, with_lane_options};
 ghost use Rattle.command_line.specs.Words.{text_options, with_choices, with_site, with_zone};
 
-use crate::words::ZoneWords;
+use crate::words::{ObjectsWords, ZoneWords};
 use clap::{Arg, ArgAction, ArgMatches, Command, value_parser};
 use std::alloc::{AllocError, Global};
 use steps::Settings;
@@ -37,6 +38,52 @@ pub(crate) fn flag_option<'a>(alloc: Global, name: &'a str, help: &'a str) -> Ar
         .long(name)
         .action(ArgAction::SetTrue)
         .help(help)
+}
+
+/// The option `--NAME` with a text, any number of times.
+pub(crate) fn text_options<'a>(
+    alloc: Global,
+    name: &'a str,
+    value: &'a str,
+    help: &'a str,
+) -> Arg<'a>
+    ensures rule { rule_of result ≡ text_options name.entry.now }
+    ensures local { result.global ≡ false }
+{
+    text_option(alloc, name, value, help).action(ArgAction::Append)
+}
+
+/// Adds the options that say where object text is.
+pub(crate) fn with_objects<'a>(
+    alloc: Global,
+    command: Command<'a>,
+) -> Result<Command<'a>, AllocError>
+    ensures words { IfOk result (λ command_with.
+        app_of command_with ≡ with_objects (app_of command.entry)) }
+{
+    let named = text_options(
+        alloc,
+        "objects",
+        "FILE",
+        "A file of object text, or a folder of .cfg files; may be given again",
+    );
+    let config = text_option(
+        alloc,
+        "config",
+        "FILE",
+        "A main configuration file, whose cfg_file and cfg_dir name object files",
+    );
+    command.arg(named)?.arg(config)
+}
+
+/// What the options of a command say of where object text is.
+pub(crate) fn objects_words<'m, 'a>(options: &'m ArgMatches<'a>) -> ObjectsWords<'m, 'a>
+    ensures { AreObjectsOf (found_of options.now) (codes "objects") (codes "config") result }
+{
+    ObjectsWords {
+        named: options.get_strs("objects"),
+        config: options.get_str("config"),
+    }
 }
 
 /// Adds the options that say what zone local times are of.

@@ -6,7 +6,9 @@ ghost use Rattle.clap.specs.Words.{app_of, rule_of};
 ghost use Rattle.command_line.specs.Words.{IsRequestOf, IsShownOf, replay_words, request_name, with_picks};
 ghost use Rattle.command_line.specs.Words.{text_options, with_shown};
 
-use crate::options::{flag_option, text_option, with_site, zone_words};
+use crate::options::{
+    flag_option, objects_words, text_option, with_objects, with_site, zone_words,
+};
 use crate::words::{Request, ShownWords};
 use clap::{Arg, ArgAction, ArgMatches, Command};
 use std::alloc::{AllocError, Global};
@@ -47,23 +49,17 @@ of its lines it doesn't read; given again, the logs are read one after another."
 pub(crate) fn replay_command<'a>(alloc: Global) -> Result<Command<'a>, AllocError>
     ensures words { IfOk result (λ command. app_of command ≡ replay_words) }
 {
-    let objects = text_option(
-        alloc,
-        "objects",
-        "FILE",
-        "A file of object text; standard input is then the feed alone",
-    );
     let command = Command::new(alloc, "replay")
         .about("What would have been sent, from object text and a feed of events")
-        .long_about(REPLAY)
-        .arg(objects)?;
+        .long_about(REPLAY);
+    let with_objects = with_objects(alloc, command)?;
     let picture = text_option(
         alloc,
         "picture",
         "FILE",
         "A file for a picture of the feed, as SVG: one row an object, time to the right",
     );
-    let with_shown = with_shown(alloc, command)?
+    let with_shown = with_shown(alloc, with_objects)?
         .arg(picture)?
         .arg(compare_option(alloc))?;
     let with_log = with_shown.arg(log_option(alloc))?;
@@ -164,7 +160,7 @@ pub(crate) fn replay_request<'m, 'a>(options: &'m ArgMatches<'a>) -> Request<'m,
     ensures options { IsRequestOf (found_of options.now) result }
 {
     Request::Replay {
-        objects: options.get_str("objects"),
+        objects: objects_words(options),
         zone: zone_words(options),
         shown: shown_words(options),
         compare: options.get_strs("compare"),

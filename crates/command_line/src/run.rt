@@ -10,8 +10,8 @@ ghost use Rattle.command_line.specs.Words.{with_feed_options, number_option, req
 ghost use Rattle.command_line.specs.Words.{with_try_options, word_list};
 
 use crate::options::{
-    deciders_of, deciders_option, flag_option, queue_option, settings_of, text_option, with_site,
-    zone_words,
+    deciders_of, deciders_option, flag_option, objects_words, queue_option, settings_of,
+    text_option, with_objects, with_site, zone_words,
 };
 use crate::state::{state_words, with_state_options};
 use crate::words::{FeedWords, LogWords, Request, TryTimes};
@@ -198,12 +198,10 @@ fn with_log_options<'a>(alloc: Global, command: Command<'a>) -> Result<Command<'
 pub(crate) fn run_command<'a>(alloc: Global) -> Result<Command<'a>, AllocError>
     ensures words { IfOk result (λ command. app_of command ≡ run_words) }
 {
-    let objects = text_option(alloc, "objects", "FILE", "The file of object text").required(true);
-    let command = Command::new(alloc, "run")
+    let bare = Command::new(alloc, "run")
         .about("Sends what is due, from an object file and a feed of events")
-        .long_about(RUN)
-        .arg(objects)?
-        .arg(deciders_option(alloc, "2"))?;
+        .long_about(RUN);
+    let command = with_objects(alloc, bare)?.arg(deciders_option(alloc, "2"))?;
     let queue = "How many notices wait at most for a command's channel, 1 to 1024";
     let with_queue = command.arg(queue_option(alloc, queue))?;
     let with_tries = with_try_options(alloc, with_queue)?;
@@ -266,11 +264,10 @@ pub(crate) fn run_request<'m, 'a>(options: &'m ArgMatches<'a>) -> Option<Request
     ensures settings { IfSome result AreSettingsFit }
     ensures lacking { IfNone result (RunLacks (found_of options.now)) }
 {
-    let objects = options.get_str("objects")?;
     let deciders = deciders_of(options)?;
     let times = try_times(options)?;
     Some(Request::Run {
-        objects,
+        objects: objects_words(options),
         settings: settings_of(options, deciders)?,
         zone: zone_words(options),
         channels: options.get_strs("channel"),

@@ -3,11 +3,13 @@
 ghost use Rattle.std.specs.Prelude.{◌≡◌, codes, false, IfNone, IfOk, IfSome};
 ghost use Rattle.clap.specs.Matches.{found_of};
 ghost use Rattle.clap.specs.Words.{app_of, rule_of};
-ghost use Rattle.command_line.specs.Words.{AreSettingsFit, IsRequestOf, IsWhoOf, LacksSupposed, WhoLacks};
+ghost use Rattle.command_line.specs.Words.{AreSettingsFit, IsRequestOf, IsWhoOf, LacksSupposed};
 ghost use Rattle.command_line.specs.Words.{length_option, text_options, who_words, with_supposed};
 ghost use Rattle.command_line.specs.Words.{request_name, text_option};
 
-use crate::options::{flag_option, one_word, text_option, with_site, zone_words};
+use crate::options::{
+    flag_option, objects_words, one_word, text_option, with_objects, with_site, zone_words,
+};
 use crate::words::{Request, WhoWords};
 use clap::{Arg, ArgAction, ArgMatches, Command};
 use std::alloc::{AllocError, Global};
@@ -102,12 +104,11 @@ fn with_supposed<'a>(alloc: Global, command: Command<'a>) -> Result<Command<'a>,
 pub(crate) fn who_command<'a>(alloc: Global) -> Result<Command<'a>, AllocError>
     ensures words { IfOk result (λ command. app_of command ≡ who_words) }
 {
-    let objects = text_option(alloc, "objects", "FILE", "The file of object text").required(true);
     let command = Command::new(alloc, "who")
         .about("Who would be told, and when, if an object went into a state")
-        .long_about(WHO)
-        .arg(objects)?;
-    let with_supposed = with_supposed(alloc, command)?;
+        .long_about(WHO);
+    let with_objects = with_objects(alloc, command)?;
+    let with_supposed = with_supposed(alloc, with_objects)?;
     with_site(alloc, with_supposed)
 }
 
@@ -131,10 +132,10 @@ pub(crate) fn who_request<'m, 'a>(options: &'m ArgMatches<'a>) -> Option<Request
     ensures named { IfSome result (λ request. request_name request ≡ codes "who") }
     ensures options { IfSome result (IsRequestOf (found_of options.now)) }
     ensures settings { IfSome result AreSettingsFit }
-    ensures lacking { IfNone result (WhoLacks (found_of options.now)) }
+    ensures lacking { IfNone result (LacksSupposed (found_of options.now)) }
 {
     Some(Request::Who {
-        objects: options.get_str("objects")?,
+        objects: objects_words(options),
         zone: zone_words(options),
         asked: who_asked(options)?,
     })

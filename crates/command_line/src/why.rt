@@ -4,9 +4,11 @@ ghost use Rattle.std.specs.Prelude.{◌≡◌, codes, false, IfNone, IfOk, IfSom
 ghost use Rattle.clap.specs.Matches.{found_of};
 ghost use Rattle.clap.specs.Words.{app_of, rule_of};
 ghost use Rattle.command_line.specs.Why.{IsWhyOf, LacksWhy, asked_object, why_words, with_span};
-ghost use Rattle.command_line.specs.Words.{AreSettingsFit, IsRequestOf, WhyLacks, request_name};
+ghost use Rattle.command_line.specs.Words.{AreSettingsFit, IsRequestOf, request_name};
 
-use crate::options::{flag_option, text_option, with_site, zone_words};
+use crate::options::{
+    flag_option, objects_words, text_option, with_objects, with_site, zone_words,
+};
 use crate::words::Request;
 use clap::{Arg, ArgMatches, Command};
 use std::alloc::{AllocError, Global};
@@ -67,13 +69,11 @@ fn with_span<'a>(alloc: Global, command: Command<'a>) -> Result<Command<'a>, All
 pub(crate) fn why_command<'a>(alloc: Global) -> Result<Command<'a>, AllocError>
     ensures words { IfOk result (λ command. app_of command ≡ why_words) }
 {
-    let objects = text_option(alloc, "objects", "FILE", "The file of object text");
     let command = Command::new(alloc, "why")
         .about("Why each message about an object went to whom it did, and to nobody else")
-        .long_about(WHY)
-        .arg(objects.required(true))?
-        .arg(asked_object(alloc))?;
-    with_site(alloc, with_span(alloc, command)?)
+        .long_about(WHY);
+    let with_object = with_objects(alloc, command)?.arg(asked_object(alloc))?;
+    with_site(alloc, with_span(alloc, with_object)?)
 }
 
 /// What the options of `why` ask of a report.
@@ -95,10 +95,10 @@ pub(crate) fn why_request<'m, 'a>(options: &'m ArgMatches<'a>) -> Option<Request
     ensures named { IfSome result (λ request. request_name request ≡ codes "why") }
     ensures options { IfSome result (IsRequestOf (found_of options.now)) }
     ensures settings { IfSome result AreSettingsFit }
-    ensures lacking { IfNone result (WhyLacks (found_of options.now)) }
+    ensures lacking { IfNone result (LacksWhy (found_of options.now)) }
 {
     Some(Request::Why {
-        objects: options.get_str("objects")?,
+        objects: objects_words(options),
         zone: zone_words(options),
         asked: why_asked(options)?,
     })

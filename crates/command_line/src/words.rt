@@ -5,7 +5,8 @@ ghost use Rattle.std.specs.List.{list_all};
 ghost use Rattle.std.specs.Option.{option_copied};
 ghost use Rattle.command_line.specs.Words.{has_bad_letters, asks_bad_letters, asks_two_forms, has_two_forms};
 ghost use Rattle.command_line.specs.Words.{is_given, is_line_letter, is_plain, fault_of, feed_fault};
-ghost use Rattle.command_line.specs.Words.{request_zone};
+ghost use Rattle.command_line.specs.Objects.{names_objects};
+ghost use Rattle.command_line.specs.Words.{lacks_changed, lacks_objects, request_zone};
 
 use crate::check::CheckWords;
 use crate::state::{FeedFault, StateWords};
@@ -96,6 +97,24 @@ impl ShownWords<'_, '_> {
     }
 }
 
+/// What a command line says of where object text is: files and folders, and a main configuration file.
+#[derive(Clone, Copy, Debug, PartialEq, Eq)]
+pub struct ObjectsWords<'m, 'a> {
+    /// The files and folders, in order, if some are named.
+    pub named: Option<&'m [&'a str]>,
+    /// The main configuration file, if there is one.
+    pub config: Option<&'a str>,
+}
+
+impl ObjectsWords<'_, '_> {
+    /// Whether it says anything.
+    pub fn is_given(self) -> bool
+        ensures { result ≡ names_objects self.entry }
+    {
+        self.named.is_some() || self.config.is_some()
+    }
+}
+
 /// What a command line supposes.
 #[derive(Clone, Copy, Debug, PartialEq, Eq)]
 pub struct WhoWords<'m, 'a> {
@@ -163,9 +182,9 @@ impl FeedWords<'_> {
 /// What the program is asked to do.
 #[derive(Clone, Copy, Debug, PartialEq, Eq)]
 pub enum Request<'m, 'a> {
-    /// A report, of the object text in the file, or of what stands before the feed on standard input.
+    /// A report, of the object text in the files, or of what stands before the feed on standard input.
     Replay {
-        objects: Option<&'a str>,
+        objects: ObjectsWords<'m, 'a>,
         zone: ZoneWords<'m, 'a>,
         shown: ShownWords<'m, 'a>,
         /// The files of the logs with which it is compared, in order, if there are some.
@@ -178,9 +197,9 @@ pub enum Request<'m, 'a> {
         standbys: u8,
         zone: ZoneWords<'m, 'a>,
     },
-    /// A run, of the object text in the file and the feed on standard input.
+    /// A run, of the object text in the files and the feed on standard input.
     Run {
-        objects: &'a str,
+        objects: ObjectsWords<'m, 'a>,
         settings: Settings,
         zone: ZoneWords<'m, 'a>,
         /// The channel words, in order, if there are some.
@@ -193,23 +212,23 @@ pub enum Request<'m, 'a> {
         log: LogWords<'a>,
         feed: FeedWords<'a>,
     },
-    /// Who would be told, of the object text in the file.
+    /// Who would be told, of the object text in the files.
     Who {
-        objects: &'a str,
+        objects: ObjectsWords<'m, 'a>,
         zone: ZoneWords<'m, 'a>,
         asked: WhoWords<'m, 'a>,
     },
-    /// What a change does to the notices of the feed on standard input: from the object text in one file to that in another.
+    /// What a change does to the notices of the feed on standard input: from one object text to another.
     Diff {
-        objects: &'a str,
-        changed: &'a str,
+        objects: ObjectsWords<'m, 'a>,
+        changed: ObjectsWords<'m, 'a>,
         zone: ZoneWords<'m, 'a>,
         /// Whether each line is to be an object of JSON.
         json: bool,
     },
-    /// Why each message about an object went to whom it did, by the object text in the file and the feed on standard input.
+    /// Why each message about an object went to whom it did, by the object text in the files and the feed on standard input.
     Why {
-        objects: &'a str,
+        objects: ObjectsWords<'m, 'a>,
         zone: ZoneWords<'m, 'a>,
         asked: WhyWords<'a>,
     },
@@ -262,6 +281,30 @@ impl<'m, 'a> Request<'m, 'a> {
         match self {
             Request::Run { feed, ahead, .. } => feed.fault(ahead),
             _ => None,
+        }
+    }
+
+    /// Whether it has to name object text, and doesn't.
+    pub fn lacks_objects(self) -> bool
+        ensures { result ≡ lacks_objects self.entry }
+    {
+        match self {
+            Request::Replay { .. } | Request::Trace { .. } => false,
+            Request::Run { objects, .. } => !objects.is_given(),
+            Request::Who { objects, .. } => !objects.is_given(),
+            Request::Diff { objects, .. } => !objects.is_given(),
+            Request::Why { objects, .. } => !objects.is_given(),
+            Request::Check { asked, .. } => !asked.objects.is_given(),
+        }
+    }
+
+    /// Whether it has to name changed object text, and doesn't.
+    pub fn lacks_changed(self) -> bool
+        ensures { result ≡ lacks_changed self.entry }
+    {
+        match self {
+            Request::Diff { changed, .. } => !changed.is_given(),
+            _ => false,
         }
     }
 

@@ -1,11 +1,13 @@
 //! The command `check`: its files, and how it ends.
 
 use crate::faults::{file_text, say_more};
+use crate::texts::object_files;
 use command_line::CheckWords;
 use command_output::{AnyWriter, CommandFault};
 use due_model::config::Choices;
 use due_model::zone::Zone;
 use faults_told::located::Source;
+use object_files::ObjectFiles;
 use object_warnings::warning::ALL;
 use site_check::{Checked, Form, check};
 use std::alloc::AllocError;
@@ -63,9 +65,11 @@ fn add_file<'a>(
 }
 
 /// Says on standard error what a check failed with, and gives its exit status.
-fn status_of_fault(rt: &HostRuntime, fault: CommandFault, name: &str) -> ExitCode {
+fn status_of_fault(rt: &HostRuntime, objects: &ObjectFiles, fault: CommandFault) -> ExitCode {
     let _ = rt.eprintln(format_args!("{fault}"));
-    say_more(rt, false, name, fault);
+    if fault == CommandFault::Unreadable {
+        say_more(rt, false, objects, fault);
+    }
     ExitCode::from(fault.status())
 }
 
@@ -128,6 +132,40 @@ fn unknown_warning<'a>(names: &[&'a str]) -> Option<&'a str> {
     None
 }
 
+/// The texts of files.
+fn texts_of<'a>(rt: &HostRuntime, files: &'a ObjectFiles) -> Result<Texts<'a>, CommandFault> {
+    let alloc = rt.alloc();
+    let mut texts = Texts {
+        text: Vec::new(alloc),
+        sources: Vec::new(alloc),
+        lines: 0,
+    };
+    for file in files.files() {
+        add_file(rt, &mut texts, file.path())?;
+    }
+    Ok(texts)
+}
+
+/// Checks the texts of files, and gives the exit status.
+fn status_of_files(
+    rt: &HostRuntime,
+    files: &ObjectFiles,
+    choices: Choices,
+    zone: &Zone,
+    has_zone: bool,
+    asked: CheckWords<'_, '_>,
+) -> ExitCode {
+    let texts = match texts_of(rt, files) {
+        Ok(texts) => texts,
+        Err(fault) => return status_of_fault(rt, files, fault),
+    };
+    match check_texts(rt, texts, choices, zone, has_zone, asked) {
+        Ok(false) => ExitCode::from(0),
+        Ok(true) => ExitCode::from(1),
+        Err(fault) => status_of_fault(rt, files, fault),
+    }
+}
+
 /// Checks object text, and gives the exit status: 1 where there is a fault, or a warning where these count.
 pub(crate) fn status_of_check(
     rt: &HostRuntime,
@@ -136,24 +174,12 @@ pub(crate) fn status_of_check(
     has_zone: bool,
     asked: CheckWords<'_, '_>,
 ) -> ExitCode {
-    let alloc = rt.alloc();
     if let Some(name) = unknown_warning(asked.allowed.unwrap_or(&[])) {
         let _ = rt.eprintln(format_args!("usage: no warning {name}"));
         return ExitCode::from(2);
     }
-    let mut texts = Texts {
-        text: Vec::new(alloc),
-        sources: Vec::new(alloc),
-        lines: 0,
-    };
-    for name in asked.objects {
-        if let Err(fault) = add_file(rt, &mut texts, *name) {
-            return status_of_fault(rt, fault, *name);
-        }
-    }
-    match check_texts(rt, texts, choices, zone, has_zone, asked) {
-        Ok(false) => ExitCode::from(0),
-        Ok(true) => ExitCode::from(1),
-        Err(fault) => status_of_fault(rt, fault, ""),
+    match object_files(rt, asked.objects) {
+        Ok(files) => status_of_files(rt, &files, choices, zone, has_zone, asked),
+        Err(status) => status,
     }
 }

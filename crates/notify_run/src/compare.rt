@@ -5,6 +5,7 @@ use crate::{out_of_memory, status_of_replay};
 use command_output::{AnyWriter, CommandFault, Ending};
 use due_model::config::Choices;
 use due_model::zone::Zone;
+use object_files::ObjectFiles;
 use progress::{ProgressLine, Watcher};
 use report_compared::{compare_files, compare_in};
 use std::fs::File;
@@ -34,7 +35,7 @@ fn compare_through<P: Watcher>(
     rt: &HostRuntime,
     choices: Choices,
     zone: &Zone,
-    objects: Option<&str>,
+    objects: Option<&ObjectFiles>,
     log: &[u8],
     feed: ReplayFeed,
     watcher: &mut P,
@@ -42,13 +43,13 @@ fn compare_through<P: Watcher>(
     let alloc = rt.alloc();
     let input = AnyReader::new(feed);
     let mut writer = AnyWriter::new(rt.stdout());
-    let Some(path) = objects else {
+    let Some(files) = objects else {
         return compare_in(alloc, choices, zone, input, log, &mut writer, watcher);
     };
-    let Ok(file) = File::open(rt, path) else {
+    let Ok(text) = files.open(rt) else {
         return Err(CommandFault::Unreadable);
     };
-    let objects = AnyReader::new(file);
+    let objects = AnyReader::new(text);
     compare_files(
         alloc,
         choices,
@@ -66,7 +67,7 @@ pub(crate) fn status_of_compare(
     rt: &HostRuntime,
     choices: Choices,
     zone: &Zone,
-    objects: Option<&str>,
+    objects: Option<&ObjectFiles>,
     logs: &[&str],
     feed: ReplayFeed,
 ) -> ExitCode {
@@ -79,5 +80,5 @@ pub(crate) fn status_of_compare(
     let mut line = ProgressLine::new(rt, rt.stderr().is_terminal());
     let outcome = compare_through(rt, choices, zone, objects, text.as_slice(), feed, &mut line);
     line.finish();
-    status_of_replay(rt, objects, outcome)
+    status_of_replay(rt, choices.text, objects, outcome)
 }

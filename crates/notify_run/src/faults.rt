@@ -1,9 +1,11 @@
 //! What is said of a fault after its first line: where it stands in the object text, or why a file or a channel isn't opened.
 
+use crate::texts::sources_of;
 use channel_words::{ChannelFault, ChannelWord, Device, read_words};
 use command_output::CommandFault;
 use faults_told::located::Source;
 use object_faults::load_fault::LoadFault;
+use object_files::ObjectFiles;
 use run_devices::{RunFault, RunSettings};
 use site_check::told;
 use std::fs::{File, OpenOptions, metadata};
@@ -51,49 +53,66 @@ fn is_file(rt: &HostRuntime, path: &str) -> bool {
     }
 }
 
-/// Says why the file at a path can't be read, if it can't.
-fn say_unreadable(rt: &HostRuntime, path: &str) {
-    match File::open(rt, path) {
-        Err(error) => {
+/// What one more try to read the file at a path fails with.
+fn try_read(rt: &HostRuntime, path: &str) -> io::Result<()> {
+    let mut file = File::open(rt, path)?;
+    file.read(&mut [0; 1])?;
+    Ok(())
+}
+
+/// Says why the first of the files that can't be read isn't.
+fn say_unreadable(rt: &HostRuntime, files: &ObjectFiles) {
+    for file in files.files() {
+        let path = file.path();
+        if let Err(error) = try_read(rt, path) {
             let _ = rt.eprintln(format_args!("    {path}: {error}"));
-        }
-        Ok(mut file) => {
-            if let Err(error) = file.read(&mut [0; 1]) {
-                let _ = rt.eprintln(format_args!("    {path}: {error}"));
-            }
+            return;
         }
     }
 }
 
+/// Says where a fault stands in the object text of the files, which is read again.
+fn say_place(rt: &HostRuntime, nagios: bool, files: &ObjectFiles, fault: LoadFault) {
+    if let (Ok(sources), Ok(text)) = (sources_of(rt.alloc(), files), files_text(rt, files)) {
+        say_told(rt, nagios, sources.as_slice(), text.as_slice(), fault);
+    }
+}
+
+/// The text of the files.
+pub(crate) fn files_text(rt: &HostRuntime, files: &ObjectFiles) -> Result<Vec<u8>, CommandFault> {
+    let Ok(text) = files.open(rt) else {
+        return Err(CommandFault::Unreadable);
+    };
+    let mut lines = LineReader::new(rt.alloc(), AnyReader::new(text))?;
+    read_as(lines.read_text(rt.alloc(), None))
+}
+
 /// Says where the fault of object text stands.
-fn say_told(rt: &HostRuntime, name: &str, text: &[u8], fault: LoadFault) {
-    let sources = [Source { name, before: 0 }];
-    if let Ok(lines) = told(rt.alloc(), &sources, false, text, fault) {
+fn say_told(rt: &HostRuntime, nagios: bool, sources: &[Source<'_>], text: &[u8], fault: LoadFault) {
+    if let Ok(lines) = told(rt.alloc(), sources, nagios, text, fault) {
         let mut errors = rt.stderr();
         let _ = errors.write_all(lines.as_slice());
         let _ = errors.flush();
     }
 }
 
-/// Says more of what a command failed with that has read the object text in the file at a path.
-pub(crate) fn say_more(rt: &HostRuntime, path: &str, fault: CommandFault) {
+/// Says more of what a command failed with that has read the object text in these files, as Nagios does or not.
+pub(crate) fn say_more(rt: &HostRuntime, nagios: bool, files: &ObjectFiles, fault: CommandFault) {
     match fault {
-        CommandFault::Unreadable => say_unreadable(rt, path),
-        CommandFault::Objects(load_fault) => {
-            if let Ok(text) = file_text(rt, path) {
-                say_told(rt, path, text.as_slice(), load_fault);
-            }
-        }
+        CommandFault::Unreadable => say_unreadable(rt, files),
+        CommandFault::Objects(load_fault) => say_place(rt, nagios, files, load_fault),
         _ => {}
     }
 }
 
 /// The same of a command that has read it from standard input: where that is a file, which can be read again.
-pub(crate) fn say_more_of_input(rt: &HostRuntime, fault: CommandFault) {
+pub(crate) fn say_more_of_input(rt: &HostRuntime, nagios: bool, fault: CommandFault) {
     if let CommandFault::Objects(load_fault) = fault {
         if is_file(rt, INPUT) {
             if let Ok(text) = head_text(rt, INPUT) {
-                say_told(rt, "standard input", text.as_slice(), load_fault);
+                let name = "standard input";
+                let sources = [Source { name, before: 0 }];
+                say_told(rt, nagios, &sources, text.as_slice(), load_fault);
             }
         }
     }
@@ -148,13 +167,15 @@ fn say_not_opened(rt: &HostRuntime, texts: &[&str], name: &str, limit: Duration)
 /// Says more of what a run failed with.
 pub(crate) fn say_more_of_run(
     rt: &HostRuntime,
-    objects: &str,
+    objects: &ObjectFiles,
     channels: Option<&[&str]>,
     settings: RunSettings,
     fault: RunFault<'_>,
 ) {
     match fault {
-        RunFault::Command(command_fault) => say_more(rt, objects, command_fault),
+        RunFault::Command(command_fault) => {
+            say_more(rt, settings.choices.text, objects, command_fault);
+        }
         RunFault::Channel(ChannelFault::NotOpened(name)) => {
             say_not_opened(rt, channels.unwrap_or(&[]), name, settings.limit());
         }

@@ -5,12 +5,14 @@ ghost use Rattle.std.specs.Process.{exit_status};
 ghost use Rattle.run_resumed.specs.Fault.{resume_status};
 
 use crate::faults::say_more_of_run;
+use crate::texts::object_files;
 use crate::{out_of_memory, status_of_run};
-use command_line::{FeedWords, LogWords};
+use command_line::{FeedWords, LogWords, ObjectsWords};
 use command_output::{AnyWriter, Ending};
 use due_model::zone::Zone;
 use feed_file::{Feed, FeedFile, FeedWays};
 use json_report::{JsonWriter, ReportWriter};
+use object_files::ObjectFiles;
 use run_devices::{
     FeedTimes, LogPlace, LoggedWords, MeteredFeed, MetricsPlace, RunFault, RunSettings, RunWords,
     do_logged_run, do_run,
@@ -19,7 +21,7 @@ use run_resumed::{
     ResumeFault, Resumed, ResumedSettings, StateSettings, do_logged_resumed_run, do_resumed_run,
 };
 use std::alloc::{AllocError, Global};
-use std::io::{self, Eprint};
+use std::io;
 use std::process::ExitCode;
 use std::rt::{Stdin, Stdout};
 use std::sync::{Arc, Wait};
@@ -79,7 +81,7 @@ pub(crate) fn status_of_feed<T: Threads + Wait + Clock + Sync>(
     rt: &HostRuntime,
     threads: &T,
     zone: &Zone,
-    objects: &str,
+    objects: ObjectsWords<'_, '_>,
     settings: RunSettings,
     channels: Option<&[&str]>,
     log: LogWords<'_>,
@@ -97,8 +99,12 @@ pub(crate) fn status_of_feed<T: Threads + Wait + Clock + Sync>(
     let Ok(opened) = noted_feed(opened, metrics) else {
         return out_of_memory(rt);
     };
+    let files = match object_files(rt, objects) {
+        Ok(files) => files,
+        Err(status) => return status,
+    };
     let words = RunWords {
-        objects,
+        objects: &files,
         channels,
         metrics,
     };
@@ -179,12 +185,12 @@ fn status_of_new<T: Threads + Wait + Clock + Sync>(
 /// Says on standard error what a run failed with, if it did, and why, and gives its exit status.
 fn status_of_done(
     rt: &HostRuntime,
-    objects: &str,
+    objects: &ObjectFiles,
     channels: Option<&[&str]>,
     settings: RunSettings,
     outcome: Result<Ending, RunFault<'_>>,
 ) -> ExitCode {
-    let status = status_of_run(rt, outcome);
+    let status = status_of_run(rt, objects, outcome);
     if let Err(fault) = outcome {
         say_more_of_run(rt, objects, channels, settings, fault);
     }
@@ -214,7 +220,7 @@ fn status_of_resumed<T: Threads + Wait + Clock + Sync>(
         Err(ResumeFault::Run(fault)) => Some(*fault),
         _ => None,
     };
-    let status = status_of_outcome(rt, outcome);
+    let status = status_of_outcome(rt, words.objects, outcome);
     if let Some(fault) = fault {
         say_more_of_run(rt, words.objects, words.channels, settings.run, fault);
     }
@@ -222,12 +228,16 @@ fn status_of_resumed<T: Threads + Wait + Clock + Sync>(
 }
 
 /// Says on standard error what a run that goes on failed with, if it did and that wasn't said, and gives its exit status.
-fn status_of_outcome<R: Eprint>(rt: &R, outcome: Result<Resumed, ResumeFault<'_>>) -> ExitCode
+fn status_of_outcome(
+    rt: &HostRuntime,
+    objects: &ObjectFiles,
+    outcome: Result<Resumed, ResumeFault<'_>>,
+) -> ExitCode
     ensures { IfErr outcome.entry (λ fault. exit_status result ≡ resume_status fault) }
 {
     match outcome {
-        Ok(done) => status_of_run(rt, Ok(done.ending)),
-        Err(ResumeFault::Run(fault)) => status_of_run(rt, Err(fault)),
+        Ok(done) => status_of_run(rt, objects, Ok(done.ending)),
+        Err(ResumeFault::Run(fault)) => status_of_run(rt, objects, Err(fault)),
         Err(ResumeFault::State) => ExitCode::from(1),
     }
 }

@@ -5,7 +5,8 @@ ghost use Rattle.std.specs.Prelude.{◌≡◌, ◌<◌, is_some, true, None};
 ghost use Rattle.std.specs.Process.{exit_status};
 ghost use Rattle.clap.specs.Values.{kind_of};
 ghost use Rattle.command_output.specs.Outcome.{outcome_status};
-ghost use Rattle.command_line.specs.Words.{AreSettingsFit, AreTwo, asks_bad_letters, asks_two_forms, feed_fault, request_zone};
+ghost use Rattle.command_line.specs.Words.{AreSettingsFit, AreTwo, asks_bad_letters, asks_two_forms, feed_fault};
+ghost use Rattle.command_line.specs.Words.{lacks_changed, lacks_objects, request_zone};
 ghost use Rattle.notify_run.specs.Choices.{chosen_by};
 ghost use Rattle.notify_run.specs.Refusal.{refusal_status};
 ghost use Rattle.notify_run.specs.Shown.{ArePickedBy, AreShownBy};
@@ -19,8 +20,10 @@ mod diff;
 mod faults;
 mod feeds;
 mod logs;
+mod missing;
 mod picture;
 mod pretty;
+mod texts;
 mod who;
 mod why;
 mod zones;
@@ -28,7 +31,7 @@ mod zones;
 use check::status_of_check;
 use choice_words::choices_of;
 use clap::error::ErrorKind;
-use command_line::{Request, ShownWords, ZoneWords, command, request_of};
+use command_line::{ObjectsWords, Request, ShownWords, ZoneWords, command, request_of};
 use command_output::{AnyWriter, CommandFault, Ending, exit_status};
 use compare::status_of_compare;
 use diff::status_of_diff;
@@ -38,6 +41,8 @@ use faults::{say_more, say_more_of_input};
 use feeds::status_of_feed;
 use line_forms::Picks;
 use logs::{ReplayFeed, feed_of_logs};
+use missing::status_of_missing;
+use object_files::ObjectFiles;
 use picture::status_of_picture;
 use pretty::pretty_through;
 use progress::{ProgressLine, Watcher};
@@ -46,7 +51,6 @@ use report_forms::{LineForm, ShownLines, show_files, show_in};
 use run_devices::{RunFault, RunSettings};
 use std::alloc::{AllocError, Global};
 use std::env;
-use std::fs::File;
 use std::io::IsTerminal;
 use std::process::ExitCode;
 use std::sync::Wait;
@@ -54,6 +58,7 @@ use std::thread::Threads;
 use std::time::Clock;
 use steps::Settings;
 use text_lines::AnyReader;
+use texts::{object_files, say_fault};
 use trace::trace_in;
 use who::status_of_who;
 use why::status_of_why;
@@ -69,20 +74,21 @@ pub(crate) fn status_of<R: Eprint>(rt: &R, outcome: Result<Ending, CommandFault>
     ExitCode::from(exit_status(outcome))
 }
 
-/// The same of a command that has read the object text in the file at a path; and where the fault of it stands, or why it isn't
+/// The same of a command that has read the object text in these files; and where the fault of it stands, or why it isn't
 /// read.
 pub(crate) fn status_at(
     rt: &HostRuntime,
-    objects: &str,
+    nagios: bool,
+    objects: &ObjectFiles,
     outcome: Result<Ending, CommandFault>,
 ) -> ExitCode
     ensures { exit_status result ≡ outcome_status outcome }
 {
-    let status = status_of(rt, outcome);
     if let Err(fault) = outcome {
-        say_more(rt, objects, fault);
+        say_fault(rt, objects, fault);
+        say_more(rt, nagios, objects, fault);
     }
-    status
+    ExitCode::from(exit_status(outcome))
 }
 
 /// Memory ran out before a command was known.
@@ -113,7 +119,7 @@ fn do_replay(
     rt: &HostRuntime,
     choices: Choices,
     zone: &Zone,
-    objects: Option<&str>,
+    objects: Option<&ObjectFiles>,
     words: ShownWords<'_, '_>,
     feed: ReplayFeed,
 ) -> Result<Ending, CommandFault> {
@@ -135,20 +141,20 @@ fn replay_through<P: Watcher>(
     rt: &HostRuntime,
     choices: Choices,
     zone: &Zone,
-    objects: Option<&str>,
+    objects: Option<&ObjectFiles>,
     feed: ReplayFeed,
     watcher: &mut P,
 ) -> Result<Ending, CommandFault> {
     let alloc = rt.alloc();
     let input = AnyReader::new(feed);
     let mut writer = AnyWriter::new(rt.stdout());
-    let Some(path) = objects else {
+    let Some(files) = objects else {
         return replay_in(alloc, choices, zone, input, &mut writer, watcher);
     };
-    let Ok(file) = File::open(rt, path) else {
+    let Ok(text) = files.open(rt) else {
         return Err(CommandFault::Unreadable);
     };
-    let objects = AnyReader::new(file);
+    let objects = AnyReader::new(text);
     replay_files(alloc, choices, zone, objects, input, &mut writer, watcher)
 }
 
@@ -181,7 +187,7 @@ fn show_through<P: Watcher>(
     rt: &HostRuntime,
     choices: Choices,
     zone: &Zone,
-    objects: Option<&str>,
+    objects: Option<&ObjectFiles>,
     shown: ShownLines<'_>,
     feed: ReplayFeed,
     watcher: &mut P,
@@ -189,13 +195,13 @@ fn show_through<P: Watcher>(
     let alloc = rt.alloc();
     let input = AnyReader::new(feed);
     let mut writer = AnyWriter::new(rt.stdout());
-    let Some(path) = objects else {
+    let Some(files) = objects else {
         return show_in(alloc, choices, zone, input, shown, &mut writer, watcher);
     };
-    let Ok(file) = File::open(rt, path) else {
+    let Ok(text) = files.open(rt) else {
         return Err(CommandFault::Unreadable);
     };
-    let objects = AnyReader::new(file);
+    let objects = AnyReader::new(text);
     show_files(
         alloc,
         choices,
@@ -232,12 +238,16 @@ fn do_trace(
 }
 
 /// The same of a command that has read it from standard input.
-fn status_of_input(rt: &HostRuntime, outcome: Result<Ending, CommandFault>) -> ExitCode
+fn status_of_input(
+    rt: &HostRuntime,
+    nagios: bool,
+    outcome: Result<Ending, CommandFault>,
+) -> ExitCode
     ensures { exit_status result ≡ outcome_status outcome }
 {
     let status = status_of(rt, outcome);
     if let Err(fault) = outcome {
-        say_more_of_input(rt, fault);
+        say_more_of_input(rt, nagios, fault);
     }
     status
 }
@@ -245,14 +255,15 @@ fn status_of_input(rt: &HostRuntime, outcome: Result<Ending, CommandFault>) -> E
 /// Says on standard error what a replay failed with, if it did, and where or why, and gives its exit status.
 fn status_of_replay(
     rt: &HostRuntime,
-    objects: Option<&str>,
+    nagios: bool,
+    objects: Option<&ObjectFiles>,
     outcome: Result<Ending, CommandFault>,
 ) -> ExitCode
     ensures { exit_status result ≡ outcome_status outcome }
 {
     match objects {
-        Some(path) => status_at(rt, path, outcome),
-        None => status_of_input(rt, outcome),
+        Some(files) => status_at(rt, nagios, files, outcome),
+        None => status_of_input(rt, nagios, outcome),
     }
 }
 
@@ -261,7 +272,7 @@ fn status_of_shown(
     rt: &HostRuntime,
     choices: Choices,
     zone: &Zone,
-    objects: Option<&str>,
+    objects: Option<&ObjectFiles>,
     shown: ShownWords<'_, '_>,
     compare: Option<&[&str]>,
 ) -> ExitCode {
@@ -277,7 +288,7 @@ fn status_of_shown(
         (None, Some(path)) => status_of_picture(rt, choices, zone, objects, shown, path, feed),
         (None, None) => {
             let outcome = do_replay(rt, choices, zone, objects, shown, feed);
-            status_of_replay(rt, objects, outcome)
+            status_of_replay(rt, choices.text, objects, outcome)
         }
     }
 }
@@ -291,12 +302,19 @@ fn status_of_words<R: Eprint>(rt: &R, fault: &str) -> ExitCode
 }
 
 /// Says on standard error what a run failed with, if it did, and gives its exit status.
-fn status_of_run<R: Eprint>(rt: &R, outcome: Result<Ending, RunFault<'_>>) -> ExitCode
+fn status_of_run(
+    rt: &HostRuntime,
+    objects: &ObjectFiles,
+    outcome: Result<Ending, RunFault<'_>>,
+) -> ExitCode
     ensures { exit_status result ≡ run_status outcome.entry }
 {
     match outcome {
         Ok(ending) => status_of(rt, Ok(ending)),
-        Err(RunFault::Command(fault)) => status_of(rt, Err(fault)),
+        Err(RunFault::Command(fault)) => {
+            say_fault(rt, objects, fault);
+            ExitCode::from(fault.status())
+        }
         Err(RunFault::Channel(fault)) => {
             let _ = rt.eprintln(format_args!("{fault}"));
             ExitCode::from(fault.status())
@@ -311,6 +329,24 @@ fn choices_asked(words: ZoneWords<'_, '_>) -> Option<Choices>
     match words.choose {
         Some(texts) => choices_of(words.as_nagios, words.nagios, texts),
         None => choices_of(words.as_nagios, words.nagios, &[]),
+    }
+}
+
+/// The same where the object text is in files, if some are named.
+fn status_of_lines(
+    rt: &HostRuntime,
+    choices: Choices,
+    zone: &Zone,
+    objects: ObjectsWords<'_, '_>,
+    shown: ShownWords<'_, '_>,
+    compare: Option<&[&str]>,
+) -> ExitCode {
+    if !objects.is_given() {
+        return status_of_shown(rt, choices, zone, None, shown, compare);
+    }
+    match object_files(rt, objects) {
+        Ok(files) => status_of_shown(rt, choices, zone, Some(&files), shown, compare),
+        Err(status) => status,
     }
 }
 
@@ -332,12 +368,16 @@ fn status_in<T: Threads + Wait + Clock + Sync>(
             shown,
             compare,
             ..
-        } => status_of_shown(rt, choices, zone, objects, shown, compare),
+        } => status_of_lines(rt, choices, zone, objects, shown, compare),
         Request::Trace {
             settings,
             standbys,
             ..
-        } => status_of_input(rt, do_trace(rt, choices, zone, settings, standbys)),
+        } => status_of_input(
+            rt,
+            choices.text,
+            do_trace(rt, choices, zone, settings, standbys),
+        ),
         Request::Who { objects, asked, .. } => {
             status_of_who(rt, threads, choices, zone, objects, asked)
         }
@@ -381,6 +421,8 @@ fn status_of_request<T: Threads + Wait + Clock + Sync>(
     request: Request<'_, '_>,
 ) -> ExitCode
     requires { AreSettingsFit request }
+    ensures objects { lacks_objects request.entry ≡ true → exit_status result ≡ 2 }
+    ensures changed { lacks_changed request.entry ≡ true → exit_status result ≡ 2 }
     ensures two { AreTwo (request_zone request.entry) → exit_status result ≡ 2 }
     ensures rule { IsBadRule (request_zone request.entry) → exit_status result ≡ 2 }
     ensures letters { asks_bad_letters request.entry ≡ true → exit_status result ≡ 2 }
@@ -388,6 +430,9 @@ fn status_of_request<T: Threads + Wait + Clock + Sync>(
     ensures forms { asks_two_forms request.entry ≡ true → exit_status result ≡ 2 }
     ensures choice { chosen_by (request_zone request.entry) ≡ None → exit_status result ≡ 2 }
 {
+    if request.lacks_objects() || request.lacks_changed() {
+        return status_of_missing(rt, request);
+    }
     if request.asks_bad_letters() {
         return status_of_words(rt, "bad letters");
     }

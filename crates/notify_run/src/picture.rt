@@ -7,6 +7,7 @@ use command_line::ShownWords;
 use command_output::{AnyWriter, CommandFault, Ending};
 use due_model::config::Choices;
 use due_model::zone::Zone;
+use object_files::ObjectFiles;
 use progress::{ProgressLine, Watcher};
 use report_picture::{Picture, Site, draw_files, draw_in};
 use report_pretty::PrettyLines;
@@ -20,7 +21,7 @@ use text_lines::AnyReader;
 fn draw_through<P: Watcher, T: Teller>(
     rt: &HostRuntime,
     site: Site<'_>,
-    objects: Option<&str>,
+    objects: Option<&ObjectFiles>,
     teller: T,
     picture: &mut Picture,
     feed: ReplayFeed,
@@ -29,13 +30,13 @@ fn draw_through<P: Watcher, T: Teller>(
     let alloc = rt.alloc();
     let input = AnyReader::new(feed);
     let mut writer = AnyWriter::new(rt.stdout());
-    let Some(path) = objects else {
+    let Some(files) = objects else {
         return draw_in(alloc, site, input, teller, picture, &mut writer, watcher);
     };
-    let Ok(file) = File::open(rt, path) else {
+    let Ok(text) = files.open(rt) else {
         return Err(CommandFault::Unreadable);
     };
-    let objects = AnyReader::new(file);
+    let objects = AnyReader::new(text);
     draw_files(
         alloc,
         site,
@@ -52,7 +53,7 @@ fn draw_through<P: Watcher, T: Teller>(
 fn draw_shown<P: Watcher>(
     rt: &HostRuntime,
     site: Site<'_>,
-    objects: Option<&str>,
+    objects: Option<&ObjectFiles>,
     words: ShownWords<'_, '_>,
     picture: &mut Picture,
     feed: ReplayFeed,
@@ -118,7 +119,7 @@ pub(crate) fn status_of_picture(
     rt: &HostRuntime,
     choices: Choices,
     zone: &Zone,
-    objects: Option<&str>,
+    objects: Option<&ObjectFiles>,
     words: ShownWords<'_, '_>,
     path: &str,
     feed: ReplayFeed,
@@ -134,7 +135,7 @@ pub(crate) fn status_of_picture(
     line.finish();
     if outcome.is_err() {
         unfinished.remove(rt);
-        return status_of_replay(rt, objects, outcome);
+        return status_of_replay(rt, choices.text, objects, outcome);
     }
     if let Err(fault) = unfinished.finish(rt, path, picture.text.as_slice()) {
         unfinished.remove(rt);

@@ -8,10 +8,10 @@ use command_output::{AnyWriter, CommandFault, Ending};
 use due_model::config::Choices;
 use due_model::zone::Zone;
 use line_forms::Picks;
+use object_files::ObjectFiles;
 use progress::Watcher;
 use report_pretty::{Wanted, pretty_files, pretty_in};
 use std::env::{self, VarError};
-use std::fs::File;
 use std::io::IsTerminal;
 use text_lines::AnyReader;
 use who_missed::RowForm;
@@ -46,7 +46,7 @@ pub(crate) fn pretty_through<P: Watcher>(
     rt: &HostRuntime,
     choices: Choices,
     zone: &Zone,
-    objects: Option<&str>,
+    objects: Option<&ObjectFiles>,
     picks: Picks<'_>,
     feed: ReplayFeed,
     watcher: &mut P,
@@ -58,13 +58,13 @@ pub(crate) fn pretty_through<P: Watcher>(
     };
     let input = AnyReader::new(feed);
     let mut writer = AnyWriter::new(rt.stdout());
-    let Some(path) = objects else {
+    let Some(files) = objects else {
         return pretty_in(alloc, choices, zone, input, wanted, &mut writer, watcher);
     };
-    let Ok(file) = File::open(rt, path) else {
+    let Ok(text) = files.open(rt) else {
         return Err(CommandFault::Unreadable);
     };
-    let objects = AnyReader::new(file);
+    let objects = AnyReader::new(text);
     pretty_files(
         alloc,
         choices,

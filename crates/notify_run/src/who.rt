@@ -6,17 +6,17 @@ ghost use Rattle.due_model.specs.claims.Limits.{last_moment};
 ghost use Rattle.notify_run.specs.Times.{IsBadLength, IsBadTime, IsNoMoment};
 ghost use Rattle.who_told.specs.Fault.{who_status};
 
-use crate::faults::say_more;
 use crate::pretty::row_form;
-use crate::{status_of, status_of_words};
-use command_line::WhoWords;
+use crate::texts::object_files;
+use crate::{status_at, status_of, status_of_words};
+use command_line::{ObjectsWords, WhoWords};
 use command_output::{AnyWriter, CommandFault, Ending};
 use due_model::config::Choices;
 use due_model::limits::LAST_MOMENT;
 use due_model::zone::Zone;
 use given_times::{minutes_given, moment_given};
 use made_feed::Supposed;
-use std::fs::File;
+use object_files::ObjectFiles;
 use std::process::ExitCode;
 use std::time::{Clock, SystemTime, UNIX_EPOCH};
 use text_lines::AnyReader;
@@ -70,18 +70,17 @@ fn supposed_of<'a>(
 /// Says on standard error what it failed with, if it did, and where or why, and gives its exit status.
 fn status_of_told(
     rt: &HostRuntime,
-    objects: &str,
+    nagios: bool,
+    objects: &ObjectFiles,
     outcome: Result<Ending, WhoFault<'_>>,
 ) -> ExitCode
     ensures { exit_status result ≡ who_status outcome.entry }
 {
     match outcome {
         Ok(ending) => status_of(rt, Ok(ending)),
+        Err(WhoFault::Command(fault)) => status_at(rt, nagios, objects, Err(fault)),
         Err(fault) => {
             let _ = rt.eprintln(format_args!("{fault}"));
-            if let WhoFault::Command(command_fault) = fault {
-                say_more(rt, objects, command_fault);
-            }
             ExitCode::from(fault.status())
         }
     }
@@ -92,21 +91,21 @@ fn do_who<'a>(
     rt: &HostRuntime,
     choices: Choices,
     zone: &Zone,
-    objects: &str,
+    objects: &ObjectFiles,
     asked: WhoWords<'a, 'a>,
     moment: u64,
     minutes: u16,
 ) -> Result<Ending, WhoFault<'a>>
     requires { moment ≤ last_moment }
 {
-    let Ok(file) = File::open(rt, objects) else {
+    let Ok(text) = objects.open(rt) else {
         return Err(WhoFault::Command(CommandFault::Unreadable));
     };
     let (host, service) = object_parts(asked.object);
     let down = asked.down.unwrap_or(&[]);
     let minutes = u32::from(minutes);
     let supposed = supposed_of(down, host, service, asked.state, moment, minutes);
-    let objects = AnyReader::new(file);
+    let objects = AnyReader::new(text);
     let form = row_form(rt, asked.json);
     let mut writer = AnyWriter::new(rt.stdout());
     who(
@@ -126,7 +125,7 @@ pub(crate) fn status_of_who<T: Clock>(
     clock: &T,
     choices: Choices,
     zone: &Zone,
-    objects: &str,
+    objects: ObjectsWords<'_, '_>,
     asked: WhoWords<'_, '_>,
 ) -> ExitCode
     ensures time { IsBadTime zone.now asked.entry → exit_status result ≡ 2 }
@@ -136,10 +135,13 @@ pub(crate) fn status_of_who<T: Clock>(
         return status_of_words(rt, "bad time");
     };
     match minutes_given(asked.lasting) {
-        Some(minutes) => {
-            let outcome = do_who(rt, choices, zone, objects, asked, moment, minutes);
-            status_of_told(rt, objects, outcome)
-        }
+        Some(minutes) => match object_files(rt, objects) {
+            Ok(files) => {
+                let outcome = do_who(rt, choices, zone, &files, asked, moment, minutes);
+                status_of_told(rt, choices.text, &files, outcome)
+            }
+            Err(status) => status,
+        },
         None => status_of_words(rt, "bad length"),
     }
 }

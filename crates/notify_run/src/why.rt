@@ -6,15 +6,17 @@ ghost use Rattle.due_model.specs.claims.Accepted.{IsAccepted};
 ghost use Rattle.due_model.specs.claims.Limits.{last_moment};
 ghost use Rattle.notify_run.specs.Times.{IsBadSpan, IsNoMoment};
 
-use crate::faults::file_text;
+use crate::faults::files_text;
 use crate::pretty::row_form;
+use crate::texts::{object_files, sources_of};
 use crate::{status_at, status_of, status_of_words};
-use command_line::WhyWords;
+use command_line::{ObjectsWords, WhyWords};
 use command_output::{AnyWriter, CommandFault, Ending};
 use due_model::config::{Choices, Config, ObjectId};
 use due_model::limits::LAST_MOMENT;
 use due_model::zone::Zone;
 use given_times::moment_given;
+use object_files::ObjectFiles;
 use object_resolve::load;
 use progress::ProgressLine;
 use std::alloc::Global;
@@ -65,21 +67,23 @@ fn number_of(config: &Config, name: &str) -> Option<ObjectId> {
     config.objects.find(host.as_bytes(), service)
 }
 
-/// The configuration of the object text in a file, and the places for the object of that name; none where there is no such object.
+/// The configuration of the object text in files, and the places for the object of that name; none where there is no such object.
 fn known_in(
     rt: &HostRuntime,
     choices: Choices,
-    objects: &str,
+    objects: &ObjectFiles,
     name: &str,
 ) -> Result<Option<Known>, CommandFault>
     ensures { IfOk result (λ found. IfSome found (λ known. IsAccepted known.config)) }
 {
-    let text = file_text(rt, objects)?;
+    let text = files_text(rt, objects)?;
     let config = config_of(rt.alloc(), choices, text.as_slice())?;
     let Some(number) = number_of(&config, name) else {
         return Ok(None);
     };
-    let texts = value_places(rt.alloc(), objects, text.as_slice(), usize::from(number.0))?;
+    let sources = sources_of(rt.alloc(), objects)?;
+    let number = usize::from(number.0);
+    let texts = value_places(rt.alloc(), sources.as_slice(), text.as_slice(), number)?;
     Ok(Some(Known {
         config,
         places: Places::new(texts),
@@ -116,7 +120,7 @@ fn status_between(
     rt: &HostRuntime,
     choices: Choices,
     zone: &Zone,
-    objects: &str,
+    objects: &ObjectFiles,
     words: WhyWords<'_>,
     from: u64,
     to: u64,
@@ -128,7 +132,7 @@ fn status_between(
             let _ = rt.eprintln(format_args!("usage: no object {name}"));
             return ExitCode::from(2);
         }
-        Err(fault) => return status_at(rt, objects, Err(fault)),
+        Err(fault) => return status_at(rt, choices.text, objects, Err(fault)),
     };
     let asked = Asked {
         object: words.object,
@@ -146,7 +150,7 @@ pub(crate) fn status_of_why(
     rt: &HostRuntime,
     choices: Choices,
     zone: &Zone,
-    objects: &str,
+    objects: ObjectsWords<'_, '_>,
     words: WhyWords<'_>,
 ) -> ExitCode
     ensures { IsBadSpan zone.now words.entry → exit_status result ≡ 2 }
@@ -157,5 +161,8 @@ pub(crate) fn status_of_why(
     let Some(to) = moment_or(zone, words.to, LAST_MOMENT) else {
         return status_of_words(rt, "bad time");
     };
-    status_between(rt, choices, zone, objects, words, from, to)
+    match object_files(rt, objects) {
+        Ok(files) => status_between(rt, choices, zone, &files, words, from, to),
+        Err(status) => status,
+    }
 }

@@ -21,6 +21,7 @@ use command_output::{AnyWriter, CommandFault, Ending, Sink};
 use due_model::config::{Config, LaneId};
 use due_model::zone::Zone;
 use engine::{Closers, LimitedFeed, Outlets, Post, Setup};
+use object_files::ObjectFiles;
 use run_command::{LineLog, LoggedEnd, run_logged};
 use run_records::log_writer::LogWriter;
 use run_records::run_log::RunLog;
@@ -40,8 +41,8 @@ type DeciderLines = LineLog<AnyWriter<LogWriter>>;
 /// What a run with a log is asked.
 #[derive(Clone, Copy)]
 pub struct LoggedWords<'m, 'a> {
-    /// The file with the object text.
-    pub objects: &'m str,
+    /// The files with the object text.
+    pub objects: &'m ObjectFiles,
     /// The channel words.
     pub channels: Option<&'m [&'a str]>,
     /// Where the lines of the report go.

@@ -21,12 +21,12 @@ use command_output::{CommandFault, Ending, Sink};
 use due_model::config::{Choices, Config, LaneId};
 use due_model::zone::Zone;
 use engine::{Closers, LimitedFeed, Post};
+use object_files::ObjectFiles;
 use progress::Counts;
 use run_command::run;
 use run_records::run_metrics::{MetricsPlace, metrics_at};
 use run_records::teller::{Teller, teller_of};
 use std::alloc::{AllocError, Global};
-use std::fs::File;
 use std::sync::{Arc, Wait};
 use std::thread::Threads;
 use std::time::Clock;
@@ -38,8 +38,8 @@ pub type SentChannel = CountedChannel<OpenedChannel>;
 /// What a run is asked.
 #[derive(Clone, Copy)]
 pub struct RunWords<'m, 'a> {
-    /// The file with the object text.
-    pub objects: &'m str,
+    /// The files with the object text.
+    pub objects: &'m ObjectFiles,
     /// The channel words.
     pub channels: Option<&'m [&'a str]>,
     /// Where its metrics are written to, if they are.
@@ -92,7 +92,7 @@ pub fn do_run<'m, 'a, T: Threads + Wait + Clock + Sync, R: Input + Drop, W: Sink
 /// The configuration of the object text, the lanes that words name, and their channels, one for each in order.
 pub(crate) fn open_words<'a>(
     rt: &HostRuntime,
-    objects: &str,
+    objects: &ObjectFiles,
     channels: Option<&[&'a str]>,
     settings: RunSettings,
 ) -> Result<(Config, Vec<LaneId>, Vec<OpenedChannel>), RunFault<'a>>
@@ -107,10 +107,10 @@ pub(crate) fn open_words<'a>(
 {
     let alloc = rt.alloc();
     let words = read_words(alloc, texts_of(channels))?;
-    let Ok(file) = File::open(rt, objects) else {
+    let Ok(text) = objects.open(rt) else {
         return Err(RunFault::Command(CommandFault::Unreadable));
     };
-    let (config, lanes) = checked(alloc, settings.choices, AnyReader::new(file), &words)?;
+    let (config, lanes) = checked(alloc, settings.choices, AnyReader::new(text), &words)?;
     let opened = open_channels(rt, &words, settings.limit())?;
     Ok((config, lanes, opened))
 }

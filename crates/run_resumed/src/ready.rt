@@ -99,10 +99,10 @@ pub(crate) fn ready_run<'m, 'a>(
 {
     let alloc = rt.alloc();
     let read = read_words(alloc, texts_of(words.channels))?;
-    let Ok(file) = File::open(rt, words.objects) else {
+    let Ok(text) = words.objects.open(rt) else {
         return Err(ResumeFault::Run(RunFault::Command(CommandFault::Unreadable)));
     };
-    let (config, lanes) = checked(alloc, settings.run.choices, AnyReader::new(file), &read)?;
+    let (config, lanes) = checked(alloc, settings.run.choices, AnyReader::new(text), &read)?;
     let config = Arc::new(alloc, config)?;
     let kept = kept_of(rt, &config, zone, settings.state, settings.run.quiet)?;
     unchanged(rt, &config, zone, settings.state, &kept)?;

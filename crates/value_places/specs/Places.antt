@@ -1,6 +1,8 @@
 -- Where values stand in object text (chapter "Object Inheritance").
 use Rattle.std.specs.Prelude.{◌≡◌, ℕ, true, List, [], ◌++◌, codes, decimal, is_some, Option, None, Some, slice_get}
 use Rattle.std.specs.List.{AllZip}
+use Rattle.faults_told.specs.declared.located.Source.{Source as FileStart}
+use Rattle.faults_told.specs.Located.{number_of, source_of, file_of as file_at}
 use Rattle.object_inheritance.specs.claims.Faults.{AreFree}
 use Rattle.object_inheritance.specs.claims.Inherited.{own, value}
 use Rattle.object_reader.specs.declared.block.Block.{Block}
@@ -12,22 +14,23 @@ use Rattle.value_places.specs.Questions.{Question, questions}
 use Rattle.value_places.specs.declared.origins.Origin.{Origin}
 use Rattle.value_places.specs.declared.places.Source.{Source}
 
--- a file of object text: its name, and its lines
+-- object text in files: where each begins, and all lines
 pub record File : Type 0 where
-  pub name : List ℕ
+  pub files : List FileStart
   pub lines : List (List ℕ)
 
 abbrev pub file_of : Source → File
-file_of source = record { name = source.name.now; lines = texts source.lines.now }
+file_of source = record { files = source.files.now; lines = texts source.lines.now }
 
-abbrev pub text_file : (name text : List ℕ) → File
-text_file name text = record { name = name; lines = lines_in text }
+abbrev pub text_file : List FileStart → (text : List ℕ) → File
+text_file files text = record { files = files; lines = lines_in text }
 
 -- ---- one value
 
--- the file and a line of it
+-- the file of a line, and its number there
 abbrev pub line_text : File → (line : ℕ) → List ℕ
-line_text file line = file.name ++ codes ":" ++ decimal line
+line_text file line =
+    file_at (source_of file.files line) ++ codes ":" ++ decimal (number_of (source_of file.files line) line)
 
 -- the text tells the line of the directive in the block of the `define` at that line
 pub record IsLineText (file : File) (directive : List ℕ) (define : ℕ) (text : List ℕ) : Type 0 where

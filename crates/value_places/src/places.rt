@@ -17,6 +17,7 @@ use crate::questions::{
     Rights, directive_at, enabled_directive, options_directive, other_place, period_directive,
     place_from, rights_of,
 };
+use faults_told::located::located;
 use itoa::Buffer;
 use object_groups::objects::Objects;
 use object_inheritance::inherited::{Values, values_of};
@@ -30,22 +31,23 @@ use std::alloc::{AllocError, Global};
 /// How many filters an object has.
 const FILTERS: usize = 11;
 
-/// A file of object text.
+/// Object text in files.
 #[derive(Clone, Copy)]
 pub(crate) struct Source<'a> {
-    name: &'a str,
+    files: &'a [faults_told::located::Source<'a>],
     /// Its lines, without their newlines.
     lines: &'a [&'a [u8]],
 }
 
-/// The file and a line of it.
+/// The file of a line, and its number there.
 fn line_text(alloc: Global, source: Source<'_>, line: u64) -> Result<Vec<u8>, AllocError>
     ensures { IfOk result (λ text. text.items ≡ line_text (file_of source.entry) line) }
 {
-    let mut text = Vec::from_slice(alloc, source.name.as_bytes())?;
+    let (name, number) = located(source.files, line);
+    let mut text = Vec::from_slice(alloc, name.as_bytes())?;
     text.extend_from_slice(b":")?;
     let mut buffer = Buffer::new();
-    text.extend_from_slice(buffer.format(line).as_bytes())?;
+    text.extend_from_slice(buffer.format(number).as_bytes())?;
     Ok(text)
 }
 
@@ -337,24 +339,24 @@ fn places_in(
 /// The same of object text, of which these are the blocks.
 fn places_read(
     alloc: Global,
-    file: &str,
+    files: &[faults_told::located::Source<'_>],
     text: &[u8],
     blocks: &[Block],
     object: usize,
 ) -> Result<Vec<Vec<u8>>, AllocError>
     ensures { AreSound blocks.now → IfOk result (λ texts.
-        ArePlaces (text_file file.now text.now) blocks.now object
+        ArePlaces (text_file files.now text.now) blocks.now object
         (map (λ text. text.items) texts.items)) }
 {
     let lines = lines_in(alloc, text)?;
     let source = Source {
-        name: file,
+        files,
         lines: lines.as_slice(),
     };
     places_in(alloc, source, blocks, object)
 }
 
-/// Where the values stand in the object text of a file by which the filters go of the object of that number, and those of contacts: each as a text such as
+/// Where the values stand in the object text of files by which the filters go of the object of that number, and those of contacts: each as a text such as
 /// `site.cfg:212`, the line of the directive in the block that gives the value itself, which may be a template; where the directive's name goes on in another line,
 /// that of the block's `define`. It is empty where no block gives a value, and for filters that go by no directive. First come those of the object's filters, in
 /// the order in which these are tried, eleven; and then three for each contact, by its number, for services where the object is one, and else for hosts: of
@@ -363,16 +365,16 @@ fn places_read(
 /// growth is the only error.
 pub fn value_places(
     alloc: Global,
-    file: &str,
+    files: &[faults_told::located::Source<'_>],
     text: &[u8],
     object: usize,
 ) -> Result<Vec<Vec<u8>>, AllocError>
     ensures { (blocks : List Block) → IsObjectText text.now blocks → AreSound blocks
-        → IfOk result (λ texts. ArePlaces (text_file file.now text.now) blocks object
+        → IfOk result (λ texts. ArePlaces (text_file files.now text.now) blocks object
         (map (λ text. text.items) texts.items)) }
 {
     match read(alloc, text) {
-        Ok(blocks) => places_read(alloc, file, text, blocks.as_slice(), object),
+        Ok(blocks) => places_read(alloc, files, text, blocks.as_slice(), object),
         Err(ReadFault::NoMemory) => Err(AllocError),
         Err(ReadFault::TooLarge) => Ok(Vec::new(alloc)),
         Err(ReadFault::AtLine { line: _, fault: _ }) => Ok(Vec::new(alloc)),

@@ -1,6 +1,7 @@
 use Rattle.std.proofs.Common.{List, Some, codes, ap, sym, ℕ, ◌∙◌}
 use Rattle.clap.specs.Matches.{found_of}
-use Rattle.command_line.specs.Words.{CheckLacks, DiffLacks, RunLacks, TraceLacks, WhoLacks, WhyLacks}
+use Rattle.command_line.specs.Why.{LacksWhy}
+use Rattle.command_line.specs.Words.{LacksSupposed, RunLacks, TraceLacks}
 use Rattle.command_line.proofs.RequestLemmas.{is-asked, none-asked, some-asked}
 use Rattle.command_line.proofs.asked.request_of.Goals as goal
 
@@ -43,20 +44,14 @@ returns-in-Some-who-default-clause-asked c =
 pub returns-in-Some-who-default-clause-who : goal.returns-in-Some-who-default-clause-who
 returns-in-Some-who-default-clause-who c =
     let met = c.in-Some-who-default in
-    none-asked c.args.matches.now (found_of met.options.now) (codes "who") c.who_request.result WhoLacks (ap (λ (n : List ℕ). Some n) (sym met.is-who) ∙ met.ensures.name) met.ensures.rows
+    none-asked c.args.matches.now (found_of met.options.now) (codes "who") c.who_request.result LacksSupposed (ap (λ (n : List ℕ). Some n) (sym met.is-who) ∙ met.ensures.name) met.ensures.rows
     c.who_request.ensures.lacking
 
 pub returns-in-Some-diff-default-clause-asked : goal.returns-in-Some-diff-default-clause-asked
 returns-in-Some-diff-default-clause-asked c =
     let met = c.in-Some-diff-default in
-    some-asked c.args.matches.now (found_of met.options.now) (codes "diff") c.diff_request.result (ap (λ (n : List ℕ). Some n) (sym met.is-diff) ∙ met.ensures.name) met.ensures.rows
+    is-asked c.args.matches.now (found_of met.options.now) (codes "diff") c.diff_request.result (ap (λ (n : List ℕ). Some n) (sym met.is-diff) ∙ met.ensures.name) met.ensures.rows
     c.diff_request.ensures.named c.diff_request.ensures.options
-
-pub returns-in-Some-diff-default-clause-diff : goal.returns-in-Some-diff-default-clause-diff
-returns-in-Some-diff-default-clause-diff c =
-    let met = c.in-Some-diff-default in
-    none-asked c.args.matches.now (found_of met.options.now) (codes "diff") c.diff_request.result DiffLacks (ap (λ (n : List ℕ). Some n) (sym met.is-diff) ∙ met.ensures.name) met.ensures.rows
-    c.diff_request.ensures.lacking
 
 pub returns-in-Some-why-default-clause-asked : goal.returns-in-Some-why-default-clause-asked
 returns-in-Some-why-default-clause-asked c =
@@ -67,17 +62,11 @@ returns-in-Some-why-default-clause-asked c =
 pub returns-in-Some-why-default-clause-why : goal.returns-in-Some-why-default-clause-why
 returns-in-Some-why-default-clause-why c =
     let met = c.in-Some-why-default in
-    none-asked c.args.matches.now (found_of met.options.now) (codes "why") c.why_request.result WhyLacks (ap (λ (n : List ℕ). Some n) (sym met.is-why) ∙ met.ensures.name) met.ensures.rows
+    none-asked c.args.matches.now (found_of met.options.now) (codes "why") c.why_request.result LacksWhy (ap (λ (n : List ℕ). Some n) (sym met.is-why) ∙ met.ensures.name) met.ensures.rows
     c.why_request.ensures.lacking
 
 pub returns-in-Some-check-default-clause-asked : goal.returns-in-Some-check-default-clause-asked
 returns-in-Some-check-default-clause-asked c =
     let met = c.in-Some-check-default in
-    some-asked c.args.matches.now (found_of met.options.now) (codes "check") c.check_request.result (ap (λ (n : List ℕ). Some n) (sym met.is-check) ∙ met.ensures.name) met.ensures.rows
+    is-asked c.args.matches.now (found_of met.options.now) (codes "check") c.check_request.result (ap (λ (n : List ℕ). Some n) (sym met.is-check) ∙ met.ensures.name) met.ensures.rows
     c.check_request.ensures.named c.check_request.ensures.options
-
-pub returns-in-Some-check-default-clause-check : goal.returns-in-Some-check-default-clause-check
-returns-in-Some-check-default-clause-check c =
-    let met = c.in-Some-check-default in
-    none-asked c.args.matches.now (found_of met.options.now) (codes "check") c.check_request.result CheckLacks (ap (λ (n : List ℕ). Some n) (sym met.is-check) ∙ met.ensures.name) met.ensures.rows
-    c.check_request.ensures.lacking

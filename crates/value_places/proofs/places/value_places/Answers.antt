@@ -10,7 +10,7 @@ use Rattle.value_places.proofs.places.value_places.Goals as goal
 pub returns-in-Ok : goal.returns-in-Ok
 returns-in-Ok c = λ blocks is.
     let same = c.as_slice.ensures ∙ read-same c.read.result c.in-Ok.blocks blocks c.in-Ok.is (c.read.ensures.only blocks is) in
-    subst (λ (bs : List Block). AreSound bs → IfOk c.places_read.result (λ found. ArePlaces (text_file c.args.file.now c.args.text.now) bs c.args.object (map (λ text. text.items) found.items))) same
+    subst (λ (bs : List Block). AreSound bs → IfOk c.places_read.result (λ found. ArePlaces (text_file c.args.files.now c.args.text.now) bs c.args.object (map (λ text. text.items) found.items))) same
     c.places_read.ensures
 
 pub returns-in-Err-TooLarge : goal.returns-in-Err-TooLarge
