@@ -84,11 +84,14 @@ pub(crate) fn status_at(
 ) -> ExitCode
     ensures { exit_status result ≡ outcome_status outcome }
 {
-    if let Err(fault) = outcome {
-        say_fault(rt, objects, fault);
-        say_more(rt, nagios, objects, fault);
+    match outcome {
+        Ok(ending) => status_of(rt, Ok(ending)),
+        Err(fault) => {
+            say_fault(rt, objects, fault);
+            say_more(rt, nagios, objects, fault);
+            ExitCode::from(fault.status())
+        }
     }
-    ExitCode::from(exit_status(outcome))
 }
 
 /// Memory ran out before a command was known.

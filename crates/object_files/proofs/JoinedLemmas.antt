@@ -1,5 +1,5 @@
 -- What the steps of a reader of several texts leave of what it still gives.
-use Rattle.std.proofs.Common.{◌≡◌, ◌∙◌, ◌<◌, ◌≤◌, ⊥, zero, suc, slice_set, take, drop, ℕ, ◌+◌, ◌-◌, ◌^◌, Bool, false, true, not, ◌==◌, List, [], ◌∷◌, ◌++◌, length, append_assoc, refl, sym, ap, subst, tt, arith, Option, Some, None}
+use Rattle.std.proofs.Common.{◌≡◌, ◌∙◌, ◌<◌, ◌≤◌, zero, suc, slice_set, take, drop, ℕ, ◌+◌, ◌-◌, ◌^◌, Bool, false, true, not, ◌==◌, List, [], ◌∷◌, ◌++◌, length, append_assoc, refl, sym, ap, subst, arith, Option, Some, None}
 use Rattle.std.specs.Prelude.{min, filter}
 use Rattle.std.specs.Io.KnownBytes.{Consumes, IsAtEnd, Keeps, prepend_known}
 use Rattle.object_files.specs.Joined.{Gives, Goes, GoesOn, Joining, Reads, Same, Stays, counted, is_open_after, known_from, newline_of, to_give}
@@ -20,7 +20,8 @@ pub counted-itself : (lines : ℕ) → lines ≤ 2 ^ 64 - 1 → lines ≡ counte
 counted-itself lines within = let wanted : lines ≡ min (lines + 0) (2 ^ 64 - 1) = omega (arith, within) in wanted
 
 pub drop-past : (n : ℕ) (xs : List ℕ) → length xs ≤ n → drop n xs ≡ []
-drop-past n [] past = refl
+drop-past zero [] past = refl
+drop-past (suc n) [] past = refl
 drop-past zero (x ∷ xs) past = absurd (omega (arith, past))
 drop-past (suc n) (x ∷ xs) past = drop-past n xs (omega (arith, past))
 

@@ -13,3 +13,6 @@ pub use found::{FindFault, find_files};
 pub use joined::{Joined, Texts};
 pub use main_file::{MainEntry, MainFault, entry_of, read_entries};
 pub use paths::{beside, is_object_name, path_in};
+
+#[cfg(test)]
+mod tests;

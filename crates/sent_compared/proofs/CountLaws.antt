@@ -1,7 +1,8 @@
 -- Lines by how often their texts stand there.
-use Rattle.std.proofs.Common.{◌≡◌, ℕ, ◌+◌, ◌-◌, ◌<◌, ◌≤◌, Bor, Bool, true, false, cond, ltb, List, [], ◌∷◌, ◌++◌, length, refl, sym, ap, ◌∙◌, arith}
+use Rattle.std.proofs.Common.{◌≡◌, ℕ, ◌+◌, ◌-◌, ◌<◌, ◌≤◌, Bor, Bool, true, false, cond, ltb, List, [], ◌∷◌, ◌++◌, length, take, drop, get_or, refl, sym, ap, subst, ◌∙◌, append_assoc, arith}
 use Rattle.std.specs.Str.{bytes_eq}
 use Rattle.std.proofs.lemmas.Bool.{ltb-false, ltb-true}
+use Rattle.std.proofs.lemmas.List.{at_drop_more, take_more}
 use Rattle.std.proofs.lemmas.Slice.Eq.{bytes_eq-Decides}
 use Rattle.sent_compared.specs.declared.texts.NoticeLine.{NoticeLine}
 use Rattle.sent_compared.specs.Difference.{HasLeft, alone, alone_after, count_of, has_match, one_of, same, same_after, times}
@@ -95,3 +96,62 @@ taken entries entries' before others line has takes t =
     let one = takes t in
     let more = count-snoc t.now before line in
     omega (arith, was, one, more)
+
+-- ---- one line further
+
+module _ (left before before' others rest rest' all : List NoticeLine) (line : NoticeLine) (b : before' ≡ before ++ line ∷ []) (r : rest ≡ line ∷ rest') (is : left ++ alone_after before others rest ≡ all) where
+  after : (left' : List NoticeLine) (m : Bool) → has_match before others line ≡ m → left' ≡ cond m left (left ++ line ∷ []) → left' ++ alone_after before' others rest' ≡ all
+  after left' m matched grown =
+      ap (λ (xs : List NoticeLine). left' ++ alone_after xs others rest') b
+      ∙ ap (λ (xs : List NoticeLine). xs ++ alone_after (before ++ line ∷ []) others rest') grown
+      ∙ moved m
+      ∙ sym (ap (λ (x : Bool). left ++ cond x (alone_after (before ++ line ∷ []) others rest') (line ∷ alone_after (before ++ line ∷ []) others rest')) matched)
+      ∙ sym (ap (λ (xs : List NoticeLine). left ++ alone_after before others xs) r)
+      ∙ is
+    where
+      moved : (x : Bool) → cond x left (left ++ line ∷ []) ++ alone_after (before ++ line ∷ []) others rest'
+          ≡ left ++ cond x (alone_after (before ++ line ∷ []) others rest') (line ∷ alone_after (before ++ line ∷ []) others rest')
+      moved true = refl
+      moved false = append_assoc left (line ∷ []) (alone_after (before ++ line ∷ []) others rest')
+
+  pub went : has_match before others line ≡ true → left ++ alone_after before' others rest' ≡ all
+  went matched = after left true matched refl
+
+  pub stayed : (left' : List NoticeLine) → has_match before others line ≡ false → left' ≡ left ++ line ∷ [] → left' ++ alone_after before' others rest' ≡ all
+  stayed left' matched grown = after left' false matched grown
+
+-- ---- by places
+
+module _ (lines : List NoticeLine) (i : ℕ) (d line : NoticeLine) (within : i < length lines) (is : line ≡ get_or lines i d) where
+  take-one : take (i + 1) lines ≡ take i lines ++ line ∷ []
+  take-one = take_more lines i d within ∙ ap (λ (x : NoticeLine). take i lines ++ x ∷ []) (sym is)
+
+  drop-one : drop i lines ≡ line ∷ drop (i + 1) lines
+  drop-one = at_drop_more (λ (xs : List NoticeLine). xs) lines i d within ∙ ap (λ (x : NoticeLine). x ∷ drop (i + 1) lines) (sym is)
+
+  pub noted_at : (entries entries' : List (Bor (List ℕ) × ℕ)) → HasLeft entries [] (take i lines)
+      → ((t : Bor (List ℕ)) → times entries' t.now ≡ times entries t.now + one_of line.text t.now) → HasLeft entries' [] (take (i + 1) lines)
+  noted_at entries entries' has adds = subst (λ (ns : List NoticeLine). HasLeft entries' [] ns) (sym take-one) (noted entries entries' (take i lines) line has adds)
+
+  pub taken_at : (entries entries' : List (Bor (List ℕ) × ℕ)) (others : List NoticeLine) → HasLeft entries (take i lines) others
+      → ((t : Bor (List ℕ)) → times entries' t.now ≡ times entries t.now - one_of line.text t.now) → HasLeft entries' (take (i + 1) lines) others
+  taken_at entries entries' others has takes = subst (λ (ns : List NoticeLine). HasLeft entries' ns others) (sym take-one) (taken entries entries' (take i lines) others line has takes)
+
+  -- what is found is whether the others have one more
+  matched : (entries : List (Bor (List ℕ) × ℕ)) (others : List NoticeLine) (text : Bor (List ℕ)) (found : Bool) → HasLeft entries (take i lines) others → text.now ≡ line.text
+      → found ≡ ltb 0 (times entries text.now) → has_match (take i lines) others line ≡ found
+  matched entries others text found has own f =
+      ap (λ (t : List ℕ). ltb 0 (count_of t others - count_of t (take i lines))) (sym own)
+      ∙ ap (λ (n : ℕ). ltb 0 n) (sym (has text)) ∙ sym f
+
+  pub went_at : (entries : List (Bor (List ℕ) × ℕ)) (others left all : List NoticeLine) (text : Bor (List ℕ)) (found : Bool) → HasLeft entries (take i lines) others → text.now ≡ line.text
+      → found ≡ ltb 0 (times entries text.now) → found ≡ true
+      → left ++ alone_after (take i lines) others (drop i lines) ≡ all → left ++ alone_after (take (i + 1) lines) others (drop (i + 1) lines) ≡ all
+  went_at entries others left all text found has own f yes so =
+      went left (take i lines) (take (i + 1) lines) others (drop i lines) (drop (i + 1) lines) all line take-one drop-one so (matched entries others text found has own f ∙ yes)
+
+  pub stayed_at : (entries : List (Bor (List ℕ) × ℕ)) (others left left' all : List NoticeLine) (text : Bor (List ℕ)) (found : Bool) → HasLeft entries (take i lines) others → text.now ≡ line.text
+      → found ≡ ltb 0 (times entries text.now) → found ≡ false → left' ≡ left ++ line ∷ []
+      → left ++ alone_after (take i lines) others (drop i lines) ≡ all → left' ++ alone_after (take (i + 1) lines) others (drop (i + 1) lines) ≡ all
+  stayed_at entries others left left' all text found has own f no grown so =
+      stayed left (take i lines) (take (i + 1) lines) others (drop i lines) (drop (i + 1) lines) all line take-one drop-one so left' (matched entries others text found has own f ∙ no) grown
