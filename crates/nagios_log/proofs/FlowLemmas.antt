@@ -20,8 +20,8 @@ whole_front : (line : List ℕ) → length line ≤ front_limit → take front_l
 whole_front line short = ap (λ (xs : List ℕ). take front_limit xs) (append-nil line) ∙ take_all front_limit line short
 
 plain-false : (b : Bool) → not b ≡ true → b ≡ false
-plain-false true no = cc
-plain-false false yes = refl
+plain-false true other = cc
+plain-false false same = refl
 
 -- a line goes on with bytes among which no newline is
 lines_from-at : (place : ℕ) (line chunk bytes : List ℕ) → length line ≤ front_limit → ((k : ℕ) → k < place → not (eqb (get_or chunk k 0) 10) ≡ true) →

@@ -121,10 +121,11 @@ impl<R: Read> LogFeed<R> {
         self.start >= self.chunk.len()
     }
 
-    /// The next byte of what was read.
+    /// The next byte of what was read. Of the line under way no more than its front is held.
     fn next_byte(&self) -> u8
         requires { 0 < length self.now.chunk }
-        ensures { self.now.chunk ≡ result ∷ drop 1 self.now.chunk }
+        ensures byte { self.now.chunk ≡ result ∷ drop 1 self.now.chunk }
+        ensures short { length self.now.line ≤ front_limit }
     {
         self.chunk[self.start]
     }

@@ -1,6 +1,6 @@
-use Rattle.std.proofs.Common.{◌≡◌, ◌∙◌, ◌++◌, List, ap, ap₂, drop, eqb, sym, take, ℕ}
+use Rattle.std.proofs.Common.{◌≡◌, ◌≤◌, arith, length, ◌∙◌, ◌++◌, List, ap, ap₂, drop, eqb, sym, take, ℕ}
 use Rattle.std.specs.List.{position_or_len}
-use Rattle.std.proofs.lemmas.List.{drop-drop}
+use Rattle.std.proofs.lemmas.List.{drop-drop, length-take}
 use Rattle.nagios_log.specs.claims.Feed.{front_limit}
 use Rattle.nagios_log.specs.Feed.{Flow}
 use Rattle.nagios_log.proofs.FlowEquals.{flows_equal}
@@ -22,3 +22,14 @@ returns-clause-ok g c =
     (sym (drop-drop c.find_byte-place.result start items) ∙ ap₂ (λ (n : ℕ) (xs : List ℕ). drop n xs) place here)
     (ap (λ (flow : Flow). flow.ended) c.self.view_is)
     (ap (λ (flow : Flow). flow.unread) c.self.view_is)
+
+pub invariant_of-self-2 : goal.invariant_of-self-2
+invariant_of-self-2 g c =
+    let line = c.self.inside.line.items in
+    let more = c.split_at-2.result.0.now in
+    let short : length c.push_front.new.line.items ≤ front_limit =
+    omega (arith, ap (λ (xs : List ℕ). length xs) c.in_ok-push_front.ensures.ok, length-take front_limit (line ++ more)) in (
+      omega (arith, c.find_byte-place.ensures.within, c.split_at.ensures.back_len, c.as_slice.ensures.len),
+      c.self.invariant.1,
+      omega (arith, short, c.push_front.new.line.ok.0),
+    )
