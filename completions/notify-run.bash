@@ -11,7 +11,7 @@ _notify_run() {
         esac
     done
     case "$command $before" in
-        "replay --objects" | "replay --picture" | "replay --zone-file" | "trace --zone-file" | "run --objects" | "run --log" | "run --metrics" | "run --feed" | "run --zone-file" | "who --objects" | "who --zone-file" | "diff --objects" | "diff --with" | "diff --zone-file" | "why --objects" | "why --zone-file" | "check --objects" | "check --zone-file")
+        "replay --objects" | "replay --picture" | "replay --compare" | "replay --zone-file" | "trace --zone-file" | "run --objects" | "run --log" | "run --metrics" | "run --feed" | "run --zone-file" | "who --objects" | "who --zone-file" | "diff --objects" | "diff --with" | "diff --zone-file" | "why --objects" | "why --zone-file" | "check --objects" | "check --zone-file")
             mapfile -t COMPREPLY < <(compgen -f -- "$word")
             return
             ;;
@@ -19,7 +19,7 @@ _notify_run() {
     esac
     case "$command" in
         "") words="replay trace run who diff why check -h --help -V --version" ;;
-        replay) words="--objects --only --object --contact --json --pretty --picture --zone --zone-file --as-nagios --nagios --choose -h --help" ;;
+        replay) words="--objects --only --object --contact --json --pretty --picture --compare --zone --zone-file --as-nagios --nagios --choose -h --help" ;;
         trace) words="--deciders --standbys --queue --tries --zone --zone-file --as-nagios --nagios --choose -h --help" ;;
         run) words="--objects --deciders --queue --tries --timeout --pause --ahead --log --fold --metrics --json --quiet --feed --follow --clock --state --in-doubt --from-now --zone --zone-file --as-nagios --nagios --choose -h --help" ;;
         who) words="--objects --at --for --down --json --zone --zone-file --as-nagios --nagios --choose -h --help" ;;

@@ -16,6 +16,7 @@ complete -c notify-run -n '__fish_seen_subcommand_from replay' -l contact -x -d 
 complete -c notify-run -n '__fish_seen_subcommand_from replay' -l json -d 'Each line as a JSON object, with the local time beside the moment'
 complete -c notify-run -n '__fish_seen_subcommand_from replay' -l pretty -d 'For people: local times, names in columns, repeated suppressions counted; colours on a terminal'
 complete -c notify-run -n '__fish_seen_subcommand_from replay' -l picture -r -F -d 'A file for a picture of the feed, as SVG: one row an object, time to the right'
+complete -c notify-run -n '__fish_seen_subcommand_from replay' -l compare -r -F -d 'A log of Nagios: in place of the report what it says was sent and isn\'t, and the reverse; may be given again'
 complete -c notify-run -n '__fish_seen_subcommand_from replay' -l zone -x -d 'The zone of local times, by its name, as Europe/Berlin, or by a POSIX rule, as EST5EDT,M3.2.0,M11.1.0'
 complete -c notify-run -n '__fish_seen_subcommand_from replay' -l zone-file -r -F -d 'The zone of local times, by a zone file (TZif)'
 complete -c notify-run -n '__fish_seen_subcommand_from replay' -l as-nagios -d 'By the rules of the daemon of Nagios Core 4.4.6, where they differ from these'

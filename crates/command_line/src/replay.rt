@@ -92,7 +92,7 @@ fn compare_option<'a>(alloc: Global) -> Arg<'a>
     text_option(
         alloc,
         "compare",
-        "LOG",
+        "FILE",
         "A log of Nagios: in place of the report what it says was sent and isn't, and the reverse; may be given again",
     )
     .action(ArgAction::Append)

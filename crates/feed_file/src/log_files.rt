@@ -1,5 +1,7 @@
 //! Files that are read as one.
 
+ghost use Rattle.std.specs.Prelude.{◌≡◌, ◌≤◌, length, IfOk};
+
 use std::fs::File;
 use std::io::{self, ErrorKind, Read};
 
@@ -33,7 +35,10 @@ impl LogFiles {
     }
 
     /// Reads of the file under way.
-    fn read_file(&mut self, buffer: &mut [u8]) -> io::Result<usize> {
+    fn read_file(&mut self, buffer: &mut [u8]) -> io::Result<usize>
+        ensures bound { IfOk result (λ count. count ≤ length buffer.new) }
+        ensures room { length buffer.new ≡ length buffer.old }
+    {
         if self.at < self.files.len() {
             self.files[self.at].read(buffer)
         } else {

@@ -1,9 +1,11 @@
 -- How the reading of a log goes on: each step leaves the feed's bytes to come.
-use Rattle.std.proofs.Common.{◌≡◌, ℕ, zero, suc, ◌+◌, ◌≤◌, ◌<◌, Bool, true, false, not, cond, eqb, List, [], ◌∷◌, ◌++◌, get_or, length, take, drop, Option, None, Some, refl, sym, ap, ◌∙◌, append_assoc, append-nil, arith}
+use Rattle.std.proofs.Common.{◌≡◌, ℕ, zero, suc, ◌+◌, ◌-◌, ◌≤◌, ◌<◌, min, Bool, true, false, not, cond, eqb, ⊎_elim, List, [], ◌∷◌, ◌++◌, get_or, length, take, drop, Option, None, Some, refl, sym, ap, ◌∙◌, append_assoc, append-nil, arith}
 use Rattle.std.specs.Option.{option_map}
 use Rattle.std.specs.List.{position_or_len}
 use Rattle.std.specs.Io.KnownBytes.{Consumes, IsAtEnd, Keeps}
-use Rattle.std.proofs.lemmas.List.{length-take, take_all}
+use Rattle.std.proofs.Math.Seq.{take-append-add}
+use Rattle.std.proofs.lemmas.Bool.{cases_lt}
+use Rattle.std.proofs.lemmas.List.{length-take, take-take, take_all}
 use Rattle.std.proofs.lemmas.List.Sums.{prefix_len_passes}
 use Rattle.nagios_log.specs.claims.Feed.{front_limit, lines_from}
 
@@ -18,8 +20,8 @@ whole_front : (line : List ℕ) → length line ≤ front_limit → take front_l
 whole_front line short = ap (λ (xs : List ℕ). take front_limit xs) (append-nil line) ∙ take_all front_limit line short
 
 plain-false : (b : Bool) → not b ≡ true → b ≡ false
-plain-false true no = cc
-plain-false false yes = refl
+plain-false true other = cc
+plain-false false same = refl
 
 -- a line goes on with bytes among which no newline is
 lines_from-at : (place : ℕ) (line chunk bytes : List ℕ) → length line ≤ front_limit → ((k : ℕ) → k < place → not (eqb (get_or chunk k 0) 10) ≡ true) →
@@ -38,6 +40,21 @@ pub lines_from-part : (line chunk bytes : List ℕ) → length line ≤ front_li
     ≡ lines_from (take front_limit (line ++ take (position_or_len (λ b. eqb b 10) chunk) chunk)) (drop (position_or_len (λ b. eqb b 10) chunk) chunk ++ bytes)
 lines_from-part line chunk bytes short =
     lines_from-at (position_or_len (λ b. eqb b 10) chunk) line chunk bytes short (λ k low. prefix_len_passes (λ b. not (eqb b 10)) chunk k 0 low)
+
+-- of a part as much is added as there is room for
+pub part_taken : (line part : List ℕ) (place : ℕ) → length line ≤ front_limit
+    → line ++ take (min place (front_limit - length line)) part ≡ take front_limit (line ++ take place part)
+part_taken line part place short =
+    let room : ℕ = front_limit - length line in
+    let front : take room (take place part) ≡ take (min place room) part = ⊎_elim
+    (λ (low : place < room). let same : place ≡ min place room = omega (arith, low) in
+    take_all room (take place part) (omega (arith, low, length-take place part)) ∙ ap (λ (n : ℕ). take n part) same)
+    (λ (high : room ≤ place). let same : room ≡ min place room = omega (arith, high) in
+    take-take room place part high ∙ ap (λ (n : ℕ). take n part) same)
+    (cases_lt place room) in
+    let all : length line + room ≡ front_limit = omega (arith, short) in
+    ap (λ (xs : List ℕ). line ++ xs) (sym front) ∙ sym (take-append-add line (take place part) room)
+    ∙ ap (λ (n : ℕ). take n (line ++ take place part)) all
 
 -- what is to come where the reader stays as it is
 pub Keeps-each : (unread : Option (List ℕ)) (f g : List ℕ → List ℕ) → ((bytes : List ℕ) → g bytes ≡ f bytes) → Keeps (option_map f unread) (option_map g unread)

@@ -1,6 +1,6 @@
 //! A log that is read as a feed.
 
-ghost use Rattle.std.specs.Prelude.{◌≡◌, ◌<◌, ◌≤◌, ◌++◌, ◌==◌, [], false, true, IfOk, OnErr, OnOk, drop, length, take};
+ghost use Rattle.std.specs.Prelude.{◌≡◌, ◌<◌, ◌≤◌, ◌++◌, ◌∷◌, ◌==◌, [], false, true, IfOk, OnErr, OnOk, drop, length, take, vec_len};
 ghost use Rattle.std.specs.Io.KnownBytes.{Keeps};
 ghost use Rattle.std.specs.List.{position_or_len};
 ghost use Rattle.std.specs.Option.{option_map};
@@ -9,7 +9,7 @@ ghost use Rattle.nagios_log.specs.Feed.{Fills, to_come};
 
 use crate::counts::Counts;
 use crate::translator::Translator;
-use std::alloc::Global;
+use std::alloc::{AllocError, Global};
 use std::io::{self, ErrorKind, Read};
 use std::marker::Model;
 use text_lines::find_byte;
@@ -19,6 +19,32 @@ const FRONT: usize = 8_192;
 
 /// How many bytes are read at once, at most.
 const CHUNK: usize = 65_536;
+
+/// Adds a part to the front of a line, as far as there is room.
+fn push_front(line: &mut Vec<u8>, part: &[u8]) -> Result<(), AllocError>
+    requires { vec_len line.old ≤ front_limit }
+    ensures ok { OnOk result (line.new.items ≡ take front_limit (line.old.items ++ part.now)) }
+    ensures err { OnErr result (line.new.items ≡ line.old.items) }
+{
+    let room = FRONT - line.len();
+    let count = part.len().min(room);
+    let (front, _) = part.split_at(count);
+    line.extend_from_slice(front)?;
+    Ok(())
+}
+
+/// Gives of what waits as much as there is room for.
+fn give_front(buffer: &mut [u8], waiting: &[u8]) -> usize
+    ensures bound { result ≤ length buffer.new }
+    ensures within { result ≤ length waiting.now }
+    ensures given { take result buffer.new ≡ take result waiting.now }
+    ensures some { result ≡ 0 → 0 < length buffer.new → waiting.now ≡ [] }
+{
+    let count = waiting.len().min(buffer.len());
+    let (front, _) = waiting.split_at(count);
+    buffer[..count].copy_from_slice(front);
+    count
+}
 
 /// A reader of a log that gives its feed. Contracts see what of both is under way.
 #[derive(Drop)]
@@ -80,6 +106,45 @@ impl<R: Read> LogFeed<R> {
         self.translator.counts()
     }
 
+    /// Whether no line is under way.
+    fn is_bare(&self) -> bool
+        ensures { result ≡ true → self.now.line ≡ [] }
+    {
+        self.line.is_empty()
+    }
+
+    /// Whether all that was read was looked at.
+    fn is_read(&self) -> bool
+        ensures all { result ≡ true → self.now.chunk ≡ [] }
+        ensures some { result ≡ false → 0 < length self.now.chunk }
+    {
+        self.start >= self.chunk.len()
+    }
+
+    /// The next byte of what was read. Of the line under way no more than its front is held.
+    fn next_byte(&self) -> u8
+        requires { 0 < length self.now.chunk }
+        ensures byte { self.now.chunk ≡ result ∷ drop 1 self.now.chunk }
+        ensures short { length self.now.line ≤ front_limit }
+    {
+        self.chunk[self.start]
+    }
+
+    /// Whether bytes of the feed wait.
+    fn holds(&self) -> bool
+        ensures some { result ≡ true → 0 < length self.now.held }
+        ensures none { result ≡ false → self.now.held ≡ [] }
+    {
+        self.given < self.text.len()
+    }
+
+    /// Whether all of the feed was made.
+    fn has_ended(&self) -> bool
+        ensures { result ≡ self.now.ended }
+    {
+        self.ended
+    }
+
     /// Calls the reader once, where no byte of it is left.
     fn fill(&mut self) -> io::Result<usize>
         requires { self.old.chunk ≡ [] }
@@ -113,10 +178,10 @@ impl<R: Read> LogFeed<R> {
         }) }
         ensures err { OnErr result (self.new ≡ self.old) }
     {
-        let part = &self.chunk[self.start..];
-        let place = find_byte(b'\n', part);
-        let room = FRONT - self.line.len();
-        self.line.extend_from_slice(&part[..place.min(room)])?;
+        let (_, rest) = self.chunk.as_slice().split_at(self.start);
+        let place = find_byte(b'\n', rest);
+        let (part, _) = rest.split_at(place);
+        push_front(&mut self.line, part)?;
         self.start += place;
         Ok(())
     }
@@ -167,10 +232,11 @@ impl<R: Read> LogFeed<R> {
         requires ended { self.old.ended ≡ false }
         ensures { Keeps (to_come self.old) (to_come self.new) }
     {
-        if self.fill()? > 0 {
+        let count = self.fill()?;
+        if count > 0 {
             return Ok(());
         }
-        if self.line.is_empty() {
+        if self.is_bare() {
             self.end_feed()
         } else {
             self.end_line()
@@ -184,7 +250,7 @@ impl<R: Read> LogFeed<R> {
         requires ended { self.old.ended ≡ false }
         ensures { Keeps (to_come self.old) (to_come self.new) }
     {
-        if self.chunk[self.start] != b'\n' {
+        if self.next_byte() != b'\n' {
             return self.take_part();
         }
         self.end_line()?;
@@ -198,10 +264,10 @@ impl<R: Read> LogFeed<R> {
         requires ended { self.old.ended ≡ false }
         ensures { Keeps (to_come self.old) (to_come self.new) }
     {
-        if self.start < self.chunk.len() {
-            self.look()
-        } else {
+        if self.is_read() {
             self.go_on()
+        } else {
+            self.look()
         }
     }
 
@@ -212,9 +278,8 @@ impl<R: Read> LogFeed<R> {
         ensures some { result ≡ 0 → 0 < length buffer.new → self.old.held ≡ [] }
         ensures rest { self.new ≡ record self.old { held = self.new.held } }
     {
-        let waiting = &self.text[self.given..];
-        let count = waiting.len().min(buffer.len());
-        buffer[..count].copy_from_slice(&waiting[..count]);
+        let (_, waiting) = self.text.as_slice().split_at(self.given);
+        let count = give_front(buffer, waiting);
         self.given += count;
         count
     }
@@ -225,10 +290,10 @@ impl<R: Read> Read for LogFeed<R> {
 
     fn read(&mut self, buffer: &mut [u8]) -> io::Result<usize> {
         for _step in 0..u64::MAX {
-            if self.given < self.text.len() {
+            if self.holds() {
                 return Ok(self.give(buffer));
             }
-            if self.ended {
+            if self.has_ended() {
                 return Ok(0);
             }
             self.step()?;

@@ -36,14 +36,16 @@ abbrev pub share_text : (same all : ℕ) → List ℕ
 share_text same all =
     if all == 0 then codes "nothing was sent" else tenths_text ((same * 1000) / all)
 
-unfoldable pub counts_text : (same lost gained : ℕ) → List ℕ
-counts_text same lost gained =
-    codes "compare: " ++ decimal same ++ codes " the same, " ++ decimal lost
-    ++ codes " of the log alone, " ++ decimal gained ++ codes " of the replay alone: "
+unfoldable pub log_counts : (same lost : ℕ) → List ℕ
+log_counts same lost =
+    codes "compare: " ++ decimal same ++ codes " the same, " ++ decimal lost ++ codes " of the log alone, "
+
+unfoldable pub replay_count : (gained : ℕ) → List ℕ
+replay_count gained = decimal gained ++ codes " of the replay alone: "
 
 abbrev pub summary : (same lost gained : ℕ) → List ℕ
 summary same lost gained =
-    counts_text same lost gained ++ share_text same (same + lost + gained) ++ 10 ∷ []
+    log_counts same lost ++ replay_count gained ++ share_text same (same + lost + gained) ++ 10 ∷ []
 
 abbrev pub comparison : (log replay : List NoticeLine) → List ℕ
 comparison log replay =
@@ -55,16 +57,19 @@ comparison log replay =
 abbrev pub how_many : Reason → List Reason → ℕ
 how_many reason reasons = length (filter (is_reason reason) reasons)
 
-unfoldable pub reasons_text : List Reason → List ℕ
-reasons_text reasons =
+unfoldable pub kinds_text : List Reason → List ℕ
+kinds_text reasons =
     codes "compare: left out of the log: " ++ decimal (how_many Kind reasons) ++ codes " of other kinds, "
     ++ decimal (how_many Object reasons) ++ codes " of unknown objects, "
-    ++ decimal (how_many Contact reasons) ++ codes " of unknown contacts, "
+
+unfoldable pub names_text : List Reason → List ℕ
+names_text reasons =
+    decimal (how_many Contact reasons) ++ codes " of unknown contacts, "
     ++ decimal (how_many Command reasons) ++ codes " of unknown commands\n"
 
 -- a line, if anything is
 abbrev pub left_out_text : List Reason → List ℕ
-left_out_text reasons = if length reasons == 0 then [] else reasons_text reasons
+left_out_text reasons = if length reasons == 0 then [] else kinds_text reasons ++ names_text reasons
 
 -- of a log's text, and of a replay's notices
 abbrev pub compared_text : Config → (log : List ℕ) → (sent : List Notice) → List ℕ

@@ -1,6 +1,6 @@
 //! Which notices are of one side alone.
 
-ghost use Rattle.std.specs.Prelude.{◌≡◌, ◌+◌, ◌-◌, ◌^◌, ◌<◌, [], ℕ, List, nat_lt, IfOk, OnOk};
+ghost use Rattle.std.specs.Prelude.{◌≡◌, ◌+◌, ◌-◌, ◌^◌, ◌<◌, ◌++◌, ◌∷◌, [], ℕ, List, nat_lt, if◌then◌else◌, IfOk, OnOk};
 ghost use Rattle.std.proofs.Common.{Bor};
 ghost use Rattle.sent_compared.specs.Difference.{HasLeft, alone, one_of, times};
 
@@ -57,6 +57,22 @@ fn count_texts<'x>(
     Ok(counts)
 }
 
+/// Keeps a line that isn't found.
+fn keep(
+    alloc: Global,
+    left: &mut Vec<NoticeLine>,
+    found: bool,
+    line: &NoticeLine,
+) -> Result<(), AllocError>
+    ensures { OnOk result (left.new.items
+        ≡ (if found then left.old.items else left.old.items ++ line.now ∷ [])) }
+{
+    if !found {
+        left.push(copy_of(alloc, line)?)?;
+    }
+    Ok(())
+}
+
 /// The lines, in order, of which the others haven't as many: of each text the last ones. The work grows with both lists.
 pub(crate) fn alone<'x>(
     alloc: Global,
@@ -68,9 +84,8 @@ pub(crate) fn alone<'x>(
     let mut counts = count_texts(alloc, others)?;
     let mut left = Vec::new(alloc);
     for line in lines {
-        if !take_one(&mut counts, line.text.as_slice())? {
-            left.push(copy_of(alloc, line)?)?;
-        }
+        let found = take_one(&mut counts, line.text.as_slice())?;
+        keep(alloc, &mut left, found, line)?;
     }
     Ok(left)
 }

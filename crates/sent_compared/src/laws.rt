@@ -3,7 +3,6 @@
 ghost use Rattle.sent_compared.specs.DifferenceLaws.{TheRestIsTheDifference};
 
 /// What is the same and what is alone are, as multisets, the notices of the log, and those of the replay; and none is alone in both.
-#[tactic(auto, using(crate::proofs::CountLaws::the_rest_is_the_difference))]
 pub fn the_rest_is_the_difference()
     ensures { TheRestIsTheDifference }
 {}

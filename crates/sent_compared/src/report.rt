@@ -1,9 +1,9 @@
 //! What is written of a comparison.
 
-ghost use Rattle.std.specs.Prelude.{◌≡◌, ◌^◌, ◌<◌, ◌≤◌, ◌++◌, length, OnOk};
-ghost use Rattle.sent_compared.specs.Report.{compared_text, comparison, count_earlier, counts_text, differences, how_many};
-ghost use Rattle.sent_compared.specs.Report.{left_out_text, reasons_text, share_text, signed_lines, signed_text, summary};
-ghost use Rattle.sent_compared.specs.Report.{tenths_text};
+ghost use Rattle.std.specs.Prelude.{◌≡◌, ◌^◌, ◌<◌, ◌≤◌, ◌++◌, decimal, length, OnOk};
+ghost use Rattle.sent_compared.specs.Report.{compared_text, comparison, count_earlier, differences, how_many, kinds_text};
+ghost use Rattle.sent_compared.specs.Report.{left_out_text, log_counts, names_text, replay_count, share_text, signed_lines};
+ghost use Rattle.sent_compared.specs.Report.{signed_text, summary, tenths_text};
 
 use crate::difference::alone;
 use crate::log::{Reason, is_reason, log_lines};
@@ -84,16 +84,23 @@ fn push_share(text: &mut Vec<u8>, same: u128, all: u128) -> Result<(), AllocErro
     }
 }
 
-/// Adds how many there are.
-#[tactic(auto, unfolding(crate::specs::Report::counts_text))]
-fn push_counts(text: &mut Vec<u8>, same: u128, lost: u128, gained: u128) -> Result<(), AllocError>
-    ensures { OnOk result (text.new.items ≡ text.old.items ++ counts_text same lost gained) }
+/// Adds how many are the same, and how many are the log's alone.
+#[tactic(auto, unfolding(crate::specs::Report::log_counts))]
+fn push_log_counts(text: &mut Vec<u8>, same: u128, lost: u128) -> Result<(), AllocError>
+    ensures { OnOk result (text.new.items ≡ text.old.items ++ log_counts same lost) }
 {
     text.extend_from_slice(b"compare: ")?;
     push_number(text, same)?;
     text.extend_from_slice(b" the same, ")?;
     push_number(text, lost)?;
-    text.extend_from_slice(b" of the log alone, ")?;
+    text.extend_from_slice(b" of the log alone, ")
+}
+
+/// Adds how many are the replay's alone.
+#[tactic(auto, unfolding(crate::specs::Report::replay_count))]
+fn push_replay_count(text: &mut Vec<u8>, gained: u128) -> Result<(), AllocError>
+    ensures { OnOk result (text.new.items ≡ text.old.items ++ replay_count gained) }
+{
     push_number(text, gained)?;
     text.extend_from_slice(b" of the replay alone: ")
 }
@@ -108,7 +115,8 @@ fn push_summary(
     ensures { OnOk result (text.new.items ≡ text.old.items ++ summary same lost gained) }
 {
     let (same, lost, gained) = (same as u128, lost as u128, gained as u128);
-    push_counts(text, same, lost, gained)?;
+    push_log_counts(text, same, lost)?;
+    push_replay_count(text, gained)?;
     push_share(text, same, same + lost + gained)?;
     text.push(b'\n')?;
     Ok(())
@@ -140,19 +148,33 @@ fn how_many(reason: Reason, reasons: &[Reason]) -> u128
     count as u128
 }
 
-/// Adds why notices are left out, and how many.
-#[tactic(auto, unfolding(crate::specs::Report::reasons_text))]
-fn push_reasons(text: &mut Vec<u8>, reasons: &[Reason]) -> Result<(), AllocError>
-    ensures { OnOk result (text.new.items ≡ text.old.items ++ reasons_text reasons.now) }
+/// Adds that number.
+fn push_how_many(text: &mut Vec<u8>, reason: Reason, reasons: &[Reason]) -> Result<(), AllocError>
+    ensures { OnOk result (text.new.items ≡ text.old.items ++ decimal (how_many reason reasons.now)) }
+{
+    push_number(text, how_many(reason, reasons))
+}
+
+/// Adds how many are left out, of other kinds and of unknown objects.
+#[tactic(auto, unfolding(crate::specs::Report::kinds_text))]
+fn push_kinds(text: &mut Vec<u8>, reasons: &[Reason]) -> Result<(), AllocError>
+    ensures { OnOk result (text.new.items ≡ text.old.items ++ kinds_text reasons.now) }
 {
     text.extend_from_slice(b"compare: left out of the log: ")?;
-    push_number(text, how_many(Reason::Kind, reasons))?;
+    push_how_many(text, Reason::Kind, reasons)?;
     text.extend_from_slice(b" of other kinds, ")?;
-    push_number(text, how_many(Reason::Object, reasons))?;
-    text.extend_from_slice(b" of unknown objects, ")?;
-    push_number(text, how_many(Reason::Contact, reasons))?;
+    push_how_many(text, Reason::Object, reasons)?;
+    text.extend_from_slice(b" of unknown objects, ")
+}
+
+/// And of other unknown names.
+#[tactic(auto, unfolding(crate::specs::Report::names_text))]
+fn push_names(text: &mut Vec<u8>, reasons: &[Reason]) -> Result<(), AllocError>
+    ensures { OnOk result (text.new.items ≡ text.old.items ++ names_text reasons.now) }
+{
+    push_how_many(text, Reason::Contact, reasons)?;
     text.extend_from_slice(b" of unknown contacts, ")?;
-    push_number(text, how_many(Reason::Command, reasons))?;
+    push_how_many(text, Reason::Command, reasons)?;
     text.extend_from_slice(b" of unknown commands\n")
 }
 
@@ -161,10 +183,10 @@ fn push_left_out(text: &mut Vec<u8>, reasons: &[Reason]) -> Result<(), AllocErro
     ensures { OnOk result (text.new.items ≡ text.old.items ++ left_out_text reasons.now) }
 {
     if reasons.is_empty() {
-        Ok(())
-    } else {
-        push_reasons(text, reasons)
+        return Ok(());
     }
+    push_kinds(text, reasons)?;
+    push_names(text, reasons)
 }
 
 /// Adds what the notices that a log's text says were sent, and those of a replay, differ in, by the names of a configuration. A notice
