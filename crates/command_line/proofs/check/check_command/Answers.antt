@@ -3,7 +3,7 @@ use Rattle.std.proofs.lemmas.Result.{IfOk-weaker}
 use Rattle.clap.specs.Simple.{app_of_fields}
 use Rattle.clap.specs.Words.{app_of, new_app, with_rule}
 use Rattle.command_line.specs.Check.{allow_option, objects_option}
-use Rattle.command_line.specs.Options.{flag_option, with_zone}
+use Rattle.command_line.specs.Options.{flag_option, with_site}
 use Rattle.command_line.proofs.check.check_command.Goals as goal
 
 pub returns : goal.returns
@@ -17,4 +17,4 @@ returns c =
     c.in_ok-arg-3.ensures.shape c.flag_option-strict.ensures.local ∙ ap₂ with_rule two c.flag_option-strict.ensures.rule in
     let four : app_of c.in_ok-command.command ≡ with_rule (with_rule (with_rule (with_rule (new_app (codes "check")) objects_option) allow_option) (flag_option (codes "strict"))) (flag_option (codes "json")) =
     c.in_ok-command.ensures.shape c.flag_option-json.ensures.local ∙ ap₂ with_rule three c.flag_option-json.ensures.rule in
-    record { words = IfOk-weaker c.with_zone.result _ _ (λ r h. h ∙ ap with_zone four) c.with_zone.ensures.words }
+    record { words = IfOk-weaker c.with_site.result _ _ (λ r h. h ∙ ap with_site four) c.with_site.ensures.words }
