@@ -65,7 +65,7 @@ fn add_file<'a>(
 /// Says on standard error what a check failed with, and gives its exit status.
 fn status_of_fault(rt: &HostRuntime, fault: CommandFault, name: &str) -> ExitCode {
     let _ = rt.eprintln(format_args!("{fault}"));
-    say_more(rt, false, name, fault);
+    say_more(rt, name, fault);
     ExitCode::from(fault.status())
 }
 
